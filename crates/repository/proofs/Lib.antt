@@ -1,0 +1,6 @@
+-- Held: the atoms that lie under rising ends.
+pub mod Held
+-- Cutting: names cut at their dots, and the dots at their end.
+pub mod Cutting
+-- Places: which atoms are held, and where.
+pub mod Places

@@ -1,0 +1,8 @@
+-- Names: how a name is cut into atoms.
+pub mod Names
+-- Atoms: numbers of atoms, and which of a name's are new.
+pub mod Atoms
+-- Refusals: the number of each, and the first that applies.
+pub mod Refusals
+-- Tables: the atoms that counts and tables stand for.
+pub mod Tables

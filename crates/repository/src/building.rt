@@ -1,0 +1,72 @@
+// A scope from its name, over counts and tables that fit each other.
+ghost use mathlib.Core.Path.{_≡_};
+ghost use mathlib.Core.Bool.{not};
+ghost use mathlib.Core.List.{[]};
+ghost use Prim.Native.Nat.{ℕ, _+_, _-_, _^_, _<_, _≤_, min};
+ghost use lib.ListN.{length, getD, take};
+ghost use Rattle.scopes.specs.Scopes.{«atoms-in»};
+ghost use Rattle.repository.specs.Atoms.{has, total, learned, «fields-for»};
+ghost use Rattle.repository.specs.Names.{pieces};
+ghost use Rattle.repository.specs.Tables.{Sound, Front, Grows, «held-by»};
+use crate::names::is_repeated;
+use crate::names::piece;
+use crate::tables::AtomTables;
+use crate::tables::Counts;
+use scopes::Scope;
+
+impl Counts {
+    // Whether the piece of an index is neither held nor among those before it.
+    fn is_new(&self, tables: &AtomTables, text: &[u8], index: usize) -> bool
+        requires sound { ⌜ Sound (now self) (now tables) ⌝ }
+        requires within { ⌜ index < length (pieces (now text)) ⌝ }
+        ensures { λ r. ⌜ r ≡ not (has (learned («held-by» (now (self .entry)) (now (tables .entry))) (take index (pieces (now (text .entry))))) (getD (pieces (now (text .entry))) index [])) ⌝ }
+    {
+        match self.find(tables, piece(text, index)) {
+            Some(_) => false,
+            None => !is_repeated(text, index),
+        }
+    }
+
+    // The counts once the pieces are known; the bytes stop at the largest number.
+    pub(crate) fn planned(&self, tables: &AtomTables, text: &[u8], count: usize) -> Counts
+        requires sound { ⌜ Sound (now self) (now tables) ⌝ }
+        requires all { ⌜ count ≡ length (pieces (now text)) ⌝ }
+        requires few { ⌜ count ≤ 8 ⌝ }
+        ensures atoms { λ r. ⌜ r .atoms ≡ length (learned («held-by» (now (self .entry)) (now (tables .entry))) (pieces (now (text .entry)))) ⌝ }
+        ensures bytes { λ r. ⌜ r .bytes ≡ min (total (learned («held-by» (now (self .entry)) (now (tables .entry))) (pieces (now (text .entry))))) (2 ^ 64 - 1) ⌝ }
+    {
+        let mut atoms = self.atoms;
+        let mut bytes = self.bytes;
+        for i in 0..count {
+            if self.is_new(tables, text, i) {
+                atoms += 1;
+                bytes = bytes.saturating_add(piece(text, i).len());
+            }
+        }
+        Counts { atoms, bytes }
+    }
+
+    // The scope of the pieces, which are added where they are new and for which there is room.
+    pub(crate) fn scope_of(&mut self, tables: &mut AtomTables, text: &[u8], count: usize) -> Scope
+        requires sound { ⌜ Sound (now self) (now tables) ⌝ }
+        requires all { ⌜ count ≡ length (pieces (now text)) ⌝ }
+        requires eight { ⌜ count ≤ 8 ⌝ }
+        requires few { ⌜ length (learned («held-by» (now self) (now tables)) (pieces (now text))) ≤ 4096 ⌝ }
+        requires short { ⌜ total (learned («held-by» (now self) (now tables)) (pieces (now text))) ≤ 65536 ⌝ }
+        ensures sound { λ _. ⌜ Sound (now (self .exit)) (now (tables .exit)) ⌝ }
+        ensures front { λ _. ⌜ Front (now (self .entry)) (now (tables .entry)) (now (tables .exit)) ⌝ }
+        ensures grows { λ _. ⌜ Grows (now (self .entry)) (now (self .exit)) ⌝ }
+        ensures held { λ _. ⌜ «held-by» (now (self .exit)) (now (tables .exit)) ≡ learned («held-by» (now (self .entry)) (now (tables .entry))) (pieces (now (text .entry))) ⌝ }
+        ensures fields { λ r. ⌜ «atoms-in» r ≡ «fields-for» (learned («held-by» (now (self .entry)) (now (tables .entry))) (pieces (now (text .entry)))) (pieces (now (text .entry))) ⌝ }
+    {
+        let mut scope = Scope::empty();
+        for i in 0..count {
+            let number = self.intern(tables, piece(text, i));
+            match scope.with_atom(number as u16) {
+                Some(more) => scope = more,
+                None => unreachable(),
+            }
+        }
+        scope
+    }
+}

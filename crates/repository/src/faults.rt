@@ -1,0 +1,42 @@
+// Why a name or a scope is refused.
+ghost use mathlib.Core.Path.{_≡_};
+ghost use Rattle.repository.specs.Refusals.{number, «write-number»};
+
+#[derive(Clone, Copy)]
+pub enum NameFault {
+    NotAscii,
+    TooLong,
+    TooManyAtoms,
+    TooMuchText,
+}
+
+#[derive(Clone, Copy)]
+pub enum WriteFault {
+    UnknownAtom,
+    ShortOutput,
+}
+
+impl NameFault {
+    // The refusal's number, as docs/refusals.md lists it.
+    pub fn number(self) -> u8
+        ensures { λ r. ⌜ r ≡ number self ⌝ }
+    {
+        match self {
+            NameFault::NotAscii => 1,
+            NameFault::TooLong => 2,
+            NameFault::TooManyAtoms => 3,
+            NameFault::TooMuchText => 4,
+        }
+    }
+}
+
+impl WriteFault {
+    pub fn number(self) -> u8
+        ensures { λ r. ⌜ r ≡ «write-number» self ⌝ }
+    {
+        match self {
+            WriteFault::UnknownAtom => 6,
+            WriteFault::ShortOutput => 7,
+        }
+    }
+}
