@@ -88,6 +88,12 @@ pub front-atoms : (c : Counts) (t u : AtomTables) → Front c t u → Sound c t 
 front-atoms c t u f s =
     ap (λ l. cuts 0 l (u .text)) (f .ends) ∙ cuts-same 0 (take (c .atoms) (t .ends)) (c .bytes) (u .text) (t .text) (s .rising) (f .text)
 
+pub front-none : (c : Counts) (t : AtomTables) → Front c t t
+front-none c t = record { ends = refl; text = refl }
+
+pub grows-none : (c : Counts) → Grows c c
+grows-none c = record { atoms = omega arith; bytes = omega arith }
+
 pub front-more : (c d : Counts) (t u v : AtomTables) → Front c t u → Grows c d → Front d u v → Front c t v
 front-more c d t u v f g h = record {
   ends = sym (take-take (c .atoms) (d .atoms) (v .ends) (g .atoms)) ∙ ap (take (c .atoms)) (h .ends) ∙ take-take (c .atoms) (d .atoms) (u .ends) (g .atoms) ∙ f .ends;

@@ -4,3 +4,7 @@ pub mod Held
 pub mod Cutting
 -- Places: which atoms are held, and where.
 pub mod Places
+-- Builds: which refusal of a name applies.
+pub mod Builds
+-- Owned: a repository's own facts.
+pub mod Owned

@@ -6,3 +6,7 @@ pub mod Atoms
 pub mod Refusals
 -- Tables: the atoms that counts and tables stand for.
 pub mod Tables
+-- Builds: what `build` answers and leaves.
+pub mod Builds
+-- Held: the atoms that a repository holds.
+pub mod Held

@@ -6,10 +6,15 @@ ghost use Prim.Native.Nat.{ℕ, _+_, _-_, _^_, _<_, _≤_, min};
 ghost use lib.ListN.{length, getD, take};
 ghost use Rattle.scopes.specs.Scopes.{«atoms-in»};
 ghost use Rattle.repository.specs.Atoms.{has, total, learned, «fields-for»};
+ghost use Rattle.repository.specs.Builds.{Builds};
 ghost use Rattle.repository.specs.Names.{pieces};
 ghost use Rattle.repository.specs.Tables.{Sound, Front, Grows, «held-by»};
+use crate::faults::NameFault;
+use crate::names::count_dots;
+use crate::names::is_ascii;
 use crate::names::is_repeated;
 use crate::names::piece;
+use crate::names::stripped_len;
 use crate::tables::AtomTables;
 use crate::tables::Counts;
 use scopes::Scope;
@@ -68,5 +73,35 @@ impl Counts {
             }
         }
         scope
+    }
+
+    // The scope of a name. Every refusal comes before the first atom is added.
+    pub(crate) fn build(&mut self, tables: &mut AtomTables, name: &[u8]) -> Result<Scope, NameFault>
+        requires { ⌜ Sound (now self) (now tables) ⌝ }
+        ensures sound { λ _. ⌜ Sound (now (self .exit)) (now (tables .exit)) ⌝ }
+        ensures front { λ _. ⌜ Front (now (self .entry)) (now (tables .entry)) (now (tables .exit)) ⌝ }
+        ensures grows { λ _. ⌜ Grows (now (self .entry)) (now (self .exit)) ⌝ }
+        ensures builds { λ r. ⌜ Builds («held-by» (now (self .entry)) (now (tables .entry))) (now (name .entry)) r («held-by» (now (self .exit)) (now (tables .exit))) ⌝ }
+    {
+        if !is_ascii(name) {
+            return Err(NameFault::NotAscii);
+        }
+        if name.len() == 0 {
+            return Ok(Scope::empty());
+        }
+        let end = stripped_len(name);
+        let text = &name[0..end];
+        let dots = count_dots(text);
+        if dots >= 8 {
+            return Err(NameFault::TooLong);
+        }
+        let wanted = self.planned(tables, text, dots + 1);
+        if wanted.atoms > 4096 {
+            return Err(NameFault::TooManyAtoms);
+        }
+        if wanted.bytes > 65536 {
+            return Err(NameFault::TooMuchText);
+        }
+        Ok(self.scope_of(tables, text, dots + 1))
     }
 }

@@ -2,4 +2,8 @@
 pub mod building;
 pub mod faults;
 pub mod names;
+pub mod scope_repository;
 pub mod tables;
+pub use faults::NameFault;
+pub use faults::WriteFault;
+pub use scope_repository::ScopeRepository;

@@ -1,0 +1,44 @@
+// What can be asked of a repository. Nothing is demanded of the caller: bad input gets its refusal.
+ghost use mathlib.Core.Path.{_≡_};
+ghost use mathlib.Core.List.{[]};
+ghost use lib.ListN.{length};
+ghost use Rattle.repository.specs.Atoms.{total};
+ghost use Rattle.repository.specs.Builds.{Builds};
+ghost use Rattle.repository.specs.Held.{«atoms-of»};
+use crate::faults::NameFault;
+use crate::scope_repository::ScopeRepository;
+use crate::tables::AtomTables;
+use crate::tables::Counts;
+use scopes::Scope;
+
+impl ScopeRepository {
+    pub fn new() -> ScopeRepository
+        ensures { λ r. ⌜ «atoms-of» r ≡ [] ⌝ }
+    {
+        ScopeRepository {
+            counts: Counts { atoms: 0, bytes: 0 },
+            tables: AtomTables { text: [0; 65536], ends: [0; 4096] },
+        }
+    }
+
+    // How many atoms are held.
+    pub fn atoms(&self) -> usize
+        ensures { λ r. ⌜ r ≡ length («atoms-of» (now (self .entry))) ⌝ }
+    {
+        self.counts.atoms
+    }
+
+    // How many bytes their text has.
+    pub fn bytes(&self) -> usize
+        ensures { λ r. ⌜ r ≡ total («atoms-of» (now (self .entry))) ⌝ }
+    {
+        self.counts.bytes
+    }
+
+    // The scope of a name. New atoms are added, unless the name is refused.
+    pub fn build(&mut self, name: &[u8]) -> Result<Scope, NameFault>
+        ensures { λ r. ⌜ Builds («atoms-of» (now (self .entry))) (now (name .entry)) r («atoms-of» (now (self .exit))) ⌝ }
+    {
+        self.counts.build(&mut self.tables, name)
+    }
+}
