@@ -8,3 +8,7 @@ pub mod Places
 pub mod Builds
 -- Owned: a repository's own facts.
 pub mod Owned
+-- Spelling: atoms joined by dots.
+pub mod Spelling
+-- Texts: the text of the atom in each field of a scope.
+pub mod Texts

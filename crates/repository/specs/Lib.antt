@@ -10,3 +10,5 @@ pub mod Tables
 pub mod Builds
 -- Held: the atoms that a repository holds.
 pub mod Held
+-- Writes: a scope's name, and what `write` answers and leaves.
+pub mod Writes

@@ -2,7 +2,7 @@
 use mathlib.Core.Path.{_≡_}
 use mathlib.Core.Bool.{Bool, true, false, cond, _&&_}
 use mathlib.Core.List.{List, [], _∷_, _++_}
-use Prim.Native.Nat.{ℕ}
+use Prim.Native.Nat.{ℕ, zero, suc}
 use lib.Dec.{eqb, ltb}
 use Rattle.std.specs.shelf.Lists.{All, joined}
 
@@ -47,3 +47,8 @@ cut (b ∷ bs) = pieces (stripped (b ∷ bs))
 abbrev pub dotted : Atoms → List ℕ
 dotted [] = []
 dotted (a ∷ rest) = a ++ joined (λ x. 46 ∷ x) rest
+
+-- the atom of an index as it stands in a name: behind a dot, but for the first
+abbrev pub led : ℕ → Atom → List ℕ
+led zero a = a
+led (suc i) a = 46 ∷ a

@@ -2,3 +2,5 @@
 pub mod Words
 -- Gaps: the test for gaps against what a gap is.
 pub mod Gaps
+-- Used: the used fields among all.
+pub mod Used

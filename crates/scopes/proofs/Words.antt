@@ -13,7 +13,7 @@ use Rattle.std.proofs.shelf.Bits.{mod-pow-add}
 use Rattle.std.proofs.shelf.Ways.{tells, decides-at}
 use Rattle.std.proofs.shelf.Tests.{cases-lt, eqb-true, eqb-false, eq-eqb, ne-eqb, and-parts, and-from}
 use Rattle.std.specs.Orderings.{Decides}
-use Rattle.scopes.specs.Fields.{word-fields, fields, unused, packed, used, starts, Prefix}
+use Rattle.scopes.specs.Fields.{word-fields, fields, unused, packed, used, starts}
 
 under-zero : (d t j : ℕ) → suc j ≤ under d t → (d ≡ 0) × (j ≤ t)
 under-zero zero t j h = (refl, omega arith)
@@ -203,8 +203,8 @@ module _ (a b : ℕ) (fits-a : a < 2 ^ 64) (fits-b : b < 2 ^ 64) (p : packed (fi
         ap (λ l. starts l (fields c d)) (j .0) ∙ starts-more (used (word-fields a)) (word-fields c) (word-fields d) (used-short (word-fields a)) ∙ word-starts a c fits-a fits-c (j .1) k
 
 -- what the test says, says the relation
-pub prefix-by : (r : Bool) (p s : List ℕ) → r ≡ starts (used p) s → Decides r (Prefix p s)
-prefix-by r p s e = decides-at r (starts (used p) s) e (starts-decides (used p) s)
+pub prefix-by : (r : Bool) (p s : List ℕ) → r ≡ starts p s → Decides r ((rest : List ℕ) × (s ≡ p ++ rest))
+prefix-by r p s e = decides-at r (starts p s) e (starts-decides p s)
 
 -- ---- one more field
 

@@ -33,10 +33,6 @@ abbrev pub used : List ℕ → List ℕ
 used [] = []
 used (f ∷ fs) = cond (eqb f 0) [] (f ∷ used fs)
 
--- the used fields of p are the first fields of s
-abbrev pub Prefix : List ℕ → List ℕ → Type 0
-Prefix p s = (rest : List ℕ) × (s ≡ used p ++ rest)
-
 -- whether s starts with the list p
 abbrev pub starts : List ℕ → List ℕ → Bool
 starts [] s = true

@@ -63,7 +63,8 @@ impl Scope {
 
     // How many atoms there are.
     pub fn len(self) -> u32
-        ensures { λ r. ⌜ r ≡ length («atoms-in» self) ⌝ }
+        ensures count { λ r. ⌜ r ≡ length («atoms-in» self) ⌝ }
+        ensures eight { λ r. ⌜ r ≤ 8 ⌝ }
     {
         let zeros = if self.b == 0 { self.a.trailing_zeros() + 64 } else { self.b.trailing_zeros() };
         8 - zeros / 16
