@@ -30,7 +30,7 @@ length-before : (b : ℕ) (ps : Atoms) → 0 < length ps → length (before b ps
 length-before b [] h = absurd (omega arith)
 length-before b (p ∷ ps) h = refl
 
-behind-nil : (ps : Atoms) → 0 < length ps → behind [] ps ≡ ps
+pub behind-nil : (ps : Atoms) → 0 < length ps → behind [] ps ≡ ps
 behind-nil [] h = absurd (omega arith)
 behind-nil (p ∷ ps) h = refl
 

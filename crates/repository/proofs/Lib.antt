@@ -12,3 +12,7 @@ pub mod Owned
 pub mod Spelling
 -- Texts: the text of the atom in each field of a scope.
 pub mod Texts
+-- Joins: cutting at dots and joining by dots undo each other.
+pub mod Joins
+-- Returning: a scope's name, built again, is the scope.
+pub mod Returning

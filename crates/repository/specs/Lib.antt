@@ -12,3 +12,5 @@ pub mod Builds
 pub mod Held
 -- Writes: a scope's name, and what `write` answers and leaves.
 pub mod Writes
+-- Laws: what holds of names above these definitions.
+pub mod Laws

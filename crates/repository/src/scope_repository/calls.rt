@@ -2,10 +2,15 @@
 ghost use mathlib.Core.Path.{_≡_};
 ghost use mathlib.Core.List.{[]};
 ghost use lib.ListN.{length};
+ghost use Rattle.std.specs.Vec.{made};
 ghost use Rattle.repository.specs.Atoms.{total};
 ghost use Rattle.repository.specs.Builds.{Builds};
 ghost use Rattle.repository.specs.Held.{«atoms-of»};
+ghost use Rattle.repository.specs.Laws.{«Cut-law», «New-law», «Round-trip»};
+ghost use Rattle.repository.specs.Names.{cut};
+ghost use Rattle.repository.specs.Writes.{Writes};
 use crate::faults::NameFault;
+use crate::faults::WriteFault;
 use crate::scope_repository::ScopeRepository;
 use crate::tables::AtomTables;
 use crate::tables::Counts;
@@ -37,8 +42,25 @@ impl ScopeRepository {
 
     // The scope of a name. New atoms are added, unless the name is refused.
     pub fn build(&mut self, name: &[u8]) -> Result<Scope, NameFault>
-        ensures { λ r. ⌜ Builds («atoms-of» (now (self .entry))) (now (name .entry)) r («atoms-of» (now (self .exit))) ⌝ }
+        ensures builds { λ r. ⌜ Builds («atoms-of» (now (self .entry))) (now (name .entry)) r («atoms-of» (now (self .exit))) ⌝ }
+        ensures cut { λ _. ⌜ «Cut-law» (now (name .entry)) ⌝ }
+        ensures new { λ _. ⌜ «New-law» («atoms-of» (now (self .entry))) (cut (now (name .entry))) ⌝ }
+        ensures returns { λ r. ⌜ made r (λ s. «Round-trip» («atoms-of» (now (self .exit))) s) ⌝ }
     {
         self.counts.build(&mut self.tables, name)
+    }
+
+    // Writes a scope's name to the beginning of an output, and answers how many bytes it has.
+    pub fn write(&self, scope: Scope, output: &mut [u8]) -> Result<usize, WriteFault>
+        ensures { λ r. ⌜ Writes («atoms-of» (now (self .entry))) scope (now (output .entry)) r (now (output .exit)) ⌝ }
+    {
+        let Some(len) = self.counts.name_len(&self.tables, scope) else {
+            return Err(WriteFault::UnknownAtom);
+        };
+        if output.len() < len {
+            return Err(WriteFault::ShortOutput);
+        }
+        self.counts.write_name(&self.tables, scope, output);
+        Ok(len)
     }
 }
