@@ -1,6 +1,7 @@
 // What can be asked of a repository. Nothing is demanded of the caller: bad input gets its refusal.
 ghost use mathlib.Core.Path.{_≡_};
 ghost use mathlib.Core.List.{[]};
+ghost use Prim.Native.Nat.{_≤_};
 ghost use lib.ListN.{length};
 ghost use Rattle.std.specs.Vec.{made};
 ghost use Rattle.repository.specs.Atoms.{total};
@@ -52,7 +53,8 @@ impl ScopeRepository {
 
     // Writes a scope's name to the beginning of an output, and answers how many bytes it has.
     pub fn write(&self, scope: Scope, output: &mut [u8]) -> Result<usize, WriteFault>
-        ensures { λ r. ⌜ Writes («atoms-of» (now (self .entry))) scope (now (output .entry)) r (now (output .exit)) ⌝ }
+        ensures writes { λ r. ⌜ Writes («atoms-of» (now (self .entry))) scope (now (output .entry)) r (now (output .exit)) ⌝ }
+        ensures within { λ r. ⌜ made r (λ n. n ≤ length (now (output .entry))) ⌝ }
     {
         let Some(len) = self.counts.name_len(&self.tables, scope) else {
             return Err(WriteFault::UnknownAtom);
