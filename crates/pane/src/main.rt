@@ -1,6 +1,5 @@
 // The formula pane as a program: `pane COMMAND FILE`.
 mod files;
-mod lines;
 mod names;
 
 use crate::files::Stopped;
@@ -10,8 +9,14 @@ use std::env;
 
 fn usage(rt: &LibcRuntime) -> Result<(), Stopped> {
     eprintln!(rt, "usage: pane names FILE")?;
-    eprintln!(rt, "  names FILE   builds the scope names in FILE, one a line, and prints for each how many atoms it has,")?;
-    eprintln!(rt, "               its two words and its name, or why it is refused")?;
+    eprintln!(
+        rt,
+        "  names FILE   builds the scope names in FILE, one a line, and prints for each how many atoms it has,"
+    )?;
+    eprintln!(
+        rt,
+        "               its two words and its name, or why it is refused"
+    )?;
     Err(Stopped)
 }
 

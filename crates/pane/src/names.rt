@@ -3,8 +3,8 @@ use crate::files::Stopped;
 use crate::files::StoppedFromAllocError;
 use crate::files::StoppedFromError;
 use crate::files::read;
-use crate::lines::line_end;
-use crate::lines::trimmed;
+use lines::split;
+use lines::trimmed;
 use repository::NameFault;
 use repository::ScopeRepository;
 use repository::WriteFault;
@@ -20,7 +20,8 @@ fn name_reason(fault: NameFault) -> &'static str {
         NameFault::NotAscii => "a byte of 128 or more stands in the name",
         NameFault::TooLong => "the name has more than 8 atoms",
         NameFault::TooManyAtoms => "the atoms held and the name's new ones exceed 4,096",
-        NameFault::TooMuchText => "the text of the atoms held and of the name's new ones exceeds 65,536 bytes",
+        NameFault::TooMuchText =>
+            "the text of the atoms held and of the name's new ones exceeds 65,536 bytes",
     }
 }
 
@@ -38,7 +39,12 @@ struct Tally {
 }
 
 // Prints what one name came to, and answers whether it is a scope.
-fn print_name(out: &mut impl Write, repository: &mut ScopeRepository, name: &[u8], buffer: &mut [u8]) -> Result<bool, Stopped> {
+fn print_name(
+    out: &mut impl Write,
+    repository: &mut ScopeRepository,
+    name: &[u8],
+    buffer: &mut [u8],
+) -> Result<bool, Stopped> {
     let scope = match repository.build(name) {
         Ok(scope) => scope,
         Err(fault) => {
@@ -66,16 +72,21 @@ fn plural(count: usize, one: &'static str, many: &'static str) -> &'static str {
 }
 
 // Prints what each line's name came to.
-fn list(out: &mut impl Write, repository: &mut ScopeRepository, text: &[u8], buffer: &mut [u8]) -> Result<Tally, Stopped> {
+fn list(
+    out: &mut impl Write,
+    repository: &mut ScopeRepository,
+    text: &[u8],
+    buffer: &mut [u8],
+) -> Result<Tally, Stopped> {
     let mut tally = Tally { read: 0, scopes: 0 };
-    let mut start: usize = 0;
-    while start < text.len() {
-        let end = line_end(text, start);
-        if print_name(out, repository, trimmed(&text[start..end]), buffer)? {
+    let mut rest = text;
+    while !rest.is_empty() {
+        let (line, after) = split(rest, b'\n');
+        if print_name(out, repository, trimmed(line), buffer)? {
             tally.scopes += 1;
         }
         tally.read += 1;
-        start = end.saturating_add(1);
+        rest = after;
     }
     Ok(tally)
 }
@@ -86,8 +97,18 @@ fn sum_up(out: &mut impl Write, repository: &ScopeRepository, tally: Tally) -> R
     let refused = read.saturating_sub(made);
     let atoms = repository.atoms();
     let bytes = repository.bytes();
-    write!(out, "{read} {} read: {made} {} of ", plural(read, "name", "names"), plural(made, "scope", "scopes"))?;
-    writeln!(out, "{atoms} different {} ({bytes} {}), {refused} refused", plural(atoms, "atom", "atoms"), plural(bytes, "byte", "bytes"))?;
+    write!(
+        out,
+        "{read} {} read: {made} {} of ",
+        plural(read, "name", "names"),
+        plural(made, "scope", "scopes")
+    )?;
+    writeln!(
+        out,
+        "{atoms} different {} ({bytes} {}), {refused} refused",
+        plural(atoms, "atom", "atoms"),
+        plural(bytes, "byte", "bytes")
+    )?;
     out.flush()?;
     Ok(())
 }
@@ -97,6 +118,11 @@ pub(crate) fn run(rt: &LibcRuntime, path: &str) -> Result<(), Stopped> {
     let mut buffer = vec![in rt.alloc(); 0u8; LONGEST]?;
     let mut out = BufWriter::new(rt.stdout());
     let mut repository = ScopeRepository::new();
-    let tally = list(&mut out, &mut repository, text.as_slice(), buffer.as_mut_slice())?;
+    let tally = list(
+        &mut out,
+        &mut repository,
+        text.as_slice(),
+        buffer.as_mut_slice(),
+    )?;
     sum_up(&mut out, &repository, tally)
 }

@@ -107,8 +107,8 @@ strip-twice (x ∷ xs) =
     ⊎-elim
     (λ (e : dots (x ∷ xs) ≡ true). let z = cond-true (dots (x ∷ xs)) [] (x ∷ stripped xs) e in ap stripped z ∙ sym z)
     (λ (e : dots (x ∷ xs) ≡ false).
-      let z = cond-false (dots (x ∷ xs)) [] (x ∷ stripped xs) e in
-      ap stripped z ∙ cond-false (dots (x ∷ stripped xs)) [] (x ∷ stripped (stripped xs)) (ap (λ t. eqb x 46 && t) (dots-stripped xs) ∙ e) ∙ ap (λ l. x ∷ l) (strip-twice xs) ∙ sym z)
+    let z = cond-false (dots (x ∷ xs)) [] (x ∷ stripped xs) e in
+    ap stripped z ∙ cond-false (dots (x ∷ stripped xs)) [] (x ∷ stripped (stripped xs)) (ap (λ t. eqb x 46 && t) (dots-stripped xs) ∙ e) ∙ ap (λ l. x ∷ l) (strip-twice xs) ∙ sym z)
     (cases-bool (dots (x ∷ xs)))
 
 strip-short : (xs : List ℕ) → length (stripped xs) ≤ length xs

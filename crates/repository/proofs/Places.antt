@@ -60,13 +60,13 @@ seen-has : (held : Atoms) (x a : Atom) → has (seen held x) a ≡ cond (has hel
 seen-has held x a =
     ⊎-elim
     (λ (e : has held x ≡ true).
-      ap (λ l. has l a) (cond-true (has held x) held (held ++ x ∷ []) e)
-      ∙ ⊎-elim
-        (λ (s : sameBytes x a ≡ true). let h : has held a ≡ true = sym (has-same held x a s) ∙ e in h ∙ sym (cond-true (has held a) true (sameBytes x a) h))
-        (λ (s : sameBytes x a ≡ false). sym (ap (λ t. cond (has held a) true t) s ∙ keep (has held a)))
-        (cases-bool (sameBytes x a)))
+    ap (λ l. has l a) (cond-true (has held x) held (held ++ x ∷ []) e)
+    ∙ ⊎-elim
+    (λ (s : sameBytes x a ≡ true). let h : has held a ≡ true = sym (has-same held x a s) ∙ e in h ∙ sym (cond-true (has held a) true (sameBytes x a) h))
+    (λ (s : sameBytes x a ≡ false). sym (ap (λ t. cond (has held a) true t) s ∙ keep (has held a)))
+    (cases-bool (sameBytes x a)))
     (λ (e : has held x ≡ false).
-      ap (λ l. has l a) (cond-false (has held x) held (held ++ x ∷ []) e) ∙ has-append held (x ∷ []) a ∙ ap (λ t. cond (has held a) true t) (keep (sameBytes x a)))
+    ap (λ l. has l a) (cond-false (has held x) held (held ++ x ∷ []) e) ∙ has-append held (x ∷ []) a ∙ ap (λ t. cond (has held a) true t) (keep (sameBytes x a)))
     (cases-bool (has held x))
 
 or-more : (x y z : Bool) → cond (cond x true y) true z ≡ cond x true (cond y true z)
@@ -134,11 +134,10 @@ pub learned-more : (held ps : Atoms) (i : ℕ) → i < length ps → learned hel
 learned-more held ps i lt = ap (learned held) (take-more ps i [] lt) ∙ learned-push held (take i ps) (getD ps i [])
 
 pub learned-long : (held ps : Atoms) → (length held ≤ length (learned held ps)) × (total held ≤ total (learned held ps))
-learned-long held ps =
-    (
-      omega (arith, ap length (learned-news held ps), length-append held (news held ps)),
-      omega (arith, ap total (learned-news held ps), total-append held (news held ps)),
-    )
+learned-long held ps = (
+  omega (arith, ap length (learned-news held ps), length-append held (news held ps)),
+  omega (arith, ap total (learned-news held ps), total-append held (news held ps)),
+)
 
 pub learned-place : (held ps : Atoms) (a : Atom) → has held a ≡ true → place (learned held ps) a ≡ place held a
 learned-place held ps a h = ap (λ l. place l a) (learned-news held ps) ∙ place-append held (news held ps) a h

@@ -142,15 +142,15 @@ cut-again : (name : List ℕ) (atoms : Atoms) → Cuts name atoms → (atoms ≡
 cut-again name atoms c some =
     sym
     (cut-law (dotted atoms) .only atoms
-      (record {
-        ending = [];
-        whole = sym (append-nil (dotted atoms));
-        dots = tt;
-        stripped = c .stripped;
-        plain = c .plain;
-        none = λ e. ap dotted e;
-        empty = no-text atoms some;
-      }))
+    (record {
+      ending = [];
+      whole = sym (append-nil (dotted atoms));
+      dots = tt;
+      stripped = c .stripped;
+      plain = c .plain;
+      none = λ e. ap dotted e;
+      empty = no-text atoms some;
+    }))
 
 module _ (held : Atoms) (name : List ℕ) (s : Scope) (after : Atoms) (a : Accepted held name s after) where
   all-held : Held after (cut name)

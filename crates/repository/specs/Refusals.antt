@@ -37,9 +37,9 @@ abbrev pub refusal : Atoms → List ℕ → Option ℕ
 refusal held name =
     first
     (
-      (1, not (ascii name))
-      ∷ (2, ltb 8 (length (cut name)))
-      ∷ (3, ltb 4096 (length (known held name)))
-      ∷ (4, ltb 65536 (total (known held name)))
-      ∷ []
+    (1, not (ascii name))
+    ∷ (2, ltb 8 (length (cut name)))
+    ∷ (3, ltb 4096 (length (known held name)))
+    ∷ (4, ltb 65536 (total (known held name)))
+    ∷ []
     )

@@ -5,6 +5,7 @@ pub mod names;
 pub mod scope_repository;
 pub mod tables;
 pub mod writing;
+
 pub use faults::NameFault;
 pub use faults::WriteFault;
 pub use scope_repository::ScopeRepository;

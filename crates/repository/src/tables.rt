@@ -26,7 +26,11 @@ fn start_of(tables: &AtomTables, number: usize) -> usize
     requires { ⌜ number ≤ 4096 ⌝ }
     ensures { λ r. ⌜ r ≡ cond (eqb number 0) 0 (getD (now (tables .entry) .ends) (number - 1) 0) ⌝ }
 {
-    if number == 0 { 0 } else { tables.ends[number - 1] as usize }
+    if number == 0 {
+        0
+    } else {
+        tables.ends[number - 1] as usize
+    }
 }
 
 impl Counts {

@@ -82,15 +82,15 @@ by-blank w P p0 p1 p2 p3 p4 =
     ⊎-elim
     (λ lt. at 0 (omega arith) (p0 (above 16 (omega arith) lt)))
     (λ ge. ⊎-elim
-      (λ lt. at 1 (omega arith) (p1 (below 16 ge) (above 32 (omega arith) lt)))
-      (λ ge. ⊎-elim
-        (λ lt. at 2 (omega arith) (p2 (below 32 ge) (above 48 (omega arith) lt)))
-        (λ ge. ⊎-elim
-          (λ lt. at 3 (omega arith) (p3 (below 48 ge) (above 64 (omega arith) lt)))
-          (λ ge. at 4 (omega (arith, trailing-le 64 w)) (p4 (below 64 ge)))
-          (cases-lt t 64))
-        (cases-lt t 48))
-      (cases-lt t 32))
+    (λ lt. at 1 (omega arith) (p1 (below 16 ge) (above 32 (omega arith) lt)))
+    (λ ge. ⊎-elim
+    (λ lt. at 2 (omega arith) (p2 (below 32 ge) (above 48 (omega arith) lt)))
+    (λ ge. ⊎-elim
+    (λ lt. at 3 (omega arith) (p3 (below 48 ge) (above 64 (omega arith) lt)))
+    (λ ge. at 4 (omega (arith, trailing-le 64 w)) (p4 (below 64 ge)))
+    (cases-lt t 64))
+    (cases-lt t 48))
+    (cases-lt t 32))
     (cases-lt t 16)
 
 pub word-used : (w : ℕ) → w < 2 ^ 64 → packed (word-fields w) ≡ true → used (word-fields w) ≡ take (4 - trailingZeros 64 w / 16) (word-fields w)
@@ -151,8 +151,7 @@ pub starts-decides : (p s : List ℕ) → Decides (starts p s) ((rest : List ℕ
 starts-decides [] s = ((λ _. (s, refl)), (λ _. refl))
 starts-decides (x ∷ p) [] = ((λ e. absurd (let z : _≡_ {A = Bool} true false = sym e in grind arith)), (λ h. absurd (let e = h .1 in let z : _≡_ {A = ℕ} 0 1 = cc in omega arith)))
 starts-decides (x ∷ p) (y ∷ s) =
-    let d = starts-decides p s in
-    (
+    let d = starts-decides p s in (
       (λ e. let b = and-parts (eqb x y) (starts p s) e in let r = d .0 (b .1) in (r .0, (λ i. sym (eqb-true x y (b .0)) i ∷ r .1 i))),
       (λ h. let e = h .1 in let x-y : x ≡ y = cc in let t : s ≡ p ++ h .0 = cc in and-from (eqb x y) (starts p s) (eq-eqb x y x-y) (d .1 (h .0, t))),
     )

@@ -23,7 +23,10 @@ impl ScopeRepository {
     {
         ScopeRepository {
             counts: Counts { atoms: 0, bytes: 0 },
-            tables: AtomTables { text: [0; 65536], ends: [0; 4096] },
+            tables: AtomTables {
+                text: [0; 65536],
+                ends: [0; 4096],
+            },
         }
     }
 

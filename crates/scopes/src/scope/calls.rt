@@ -46,7 +46,11 @@ impl Scope {
         ensures gapless { λ r. ⌜ Decides (isSome r) (Gapless (fields a b)) ⌝ }
         ensures words { λ r. ⌜ Cases r (Unit {0}) (λ s. (s .a ≡ a) × (s .b ≡ b)) ⌝ }
     {
-        if are_packed(a, b) { Some(Scope { a, b }) } else { None }
+        if are_packed(a, b) {
+            Some(Scope { a, b })
+        } else {
+            None
+        }
     }
 
     pub fn words(self) -> (u64, u64)
@@ -66,7 +70,11 @@ impl Scope {
         ensures count { λ r. ⌜ r ≡ length («atoms-in» self) ⌝ }
         ensures eight { λ r. ⌜ r ≤ 8 ⌝ }
     {
-        let zeros = if self.b == 0 { self.a.trailing_zeros() + 64 } else { self.b.trailing_zeros() };
+        let zeros = if self.b == 0 {
+            self.a.trailing_zeros() + 64
+        } else {
+            self.b.trailing_zeros()
+        };
         8 - zeros / 16
     }
 
@@ -109,9 +117,15 @@ impl Scope {
         let field = number as u64 + 1;
         let n = self.len();
         if n < 4 {
-            Some(Scope { a: self.a + (field << (48 - 16 * n)), b: self.b })
+            Some(Scope {
+                a: self.a + (field << (48 - 16 * n)),
+                b: self.b,
+            })
         } else if n < 8 {
-            Some(Scope { a: self.a, b: self.b + (field << (112 - 16 * n)) })
+            Some(Scope {
+                a: self.a,
+                b: self.b + (field << (112 - 16 * n)),
+            })
         } else {
             None
         }

@@ -7,8 +7,7 @@ use Rattle.repository.proofs.names.piece_start.Needs as need
 
 pub loop-again : need.loop-again
 loop-again c =
-    let cut = c .piece-end-start .ensures .cut in
-    (
+    let cut = c .piece-end-start .ensures .cut in (
       omega (arith, not-last (c .args .text .now) (c .loop .start) (c .piece-end-start .result) (c .loop .counter) cut (c .loop .inv .1) (omega arith)),
       next (c .args .text .now) (c .loop .start) (c .piece-end-start .result) (c .loop .counter) cut (c .loop .inv .1) (omega arith),
     )

@@ -23,16 +23,14 @@ part-eq-end c =
 
 pub returns-then-eq : need.returns-then-eq
 returns-then-eq c =
-    let d = matches-decides _ _ _ (c .eq .ensures) in
-    (
+    let d = matches-decides _ _ _ (c .eq .ensures) in (
       omega (arith, c .loop-i .inv .2, here-place (c .loop-i .start) (c .args .tables .now .ends) (c .args .tables .now .text) (c .loop-i .i) (c .args .self .now .atoms) (c .args .self .now .bytes) (c .loop-i-test .taken) (omega arith) (c .loop-i .inv .0) (c .args .atom .now) (c .eq .result) d (c .if-eq .taken)),
       sym (c .loop-i .inv .1) ∙ here-has (c .loop-i .start) (c .args .tables .now .ends) (c .args .tables .now .text) (c .loop-i .i) (c .args .self .now .atoms) (c .args .self .now .bytes) (c .loop-i-test .taken) (omega arith) (c .loop-i .inv .0) (c .args .atom .now) (c .eq .result) d (c .if-eq .taken),
     )
 
 pub loop-i-again : need.loop-i-again
 loop-i-again c =
-    let d = matches-decides _ _ _ (c .eq .ensures) in
-    (
+    let d = matches-decides _ _ _ (c .eq .ensures) in (
       turn (c .loop-i .start) (c .args .tables .now .ends) (c .args .tables .now .text) (c .loop-i .i) (c .args .self .now .atoms) (c .args .self .now .bytes) (c .loop-i-test .taken) (omega arith) (c .loop-i .inv .0) .1,
       sym (past-has (c .loop-i .start) (c .args .tables .now .ends) (c .args .tables .now .text) (c .loop-i .i) (c .args .self .now .atoms) (c .args .self .now .bytes) (c .loop-i-test .taken) (omega arith) (c .loop-i .inv .0) (c .args .atom .now) (c .eq .result) d (c .if-eq .left)) ∙ c .loop-i .inv .1,
       omega (arith, c .loop-i .inv .2, past-place (c .loop-i .start) (c .args .tables .now .ends) (c .args .tables .now .text) (c .loop-i .i) (c .args .self .now .atoms) (c .args .self .now .bytes) (c .loop-i-test .taken) (omega arith) (c .loop-i .inv .0) (c .args .atom .now) (c .eq .result) d (c .if-eq .left)),

@@ -37,8 +37,7 @@ loop-i-again c =
     let lt : c .loop-i .i < length (atoms-in (c .args .scope)) = omega (arith, c .len-i-end .ensures .count) in
     let in′ : c .loop-i .i < length ts = omega (arith, texts-length held (c .args .scope)) in
     let text = c .atom .ensures ∙ sym (text-at held (c .args .scope) (c .loop-i .i) (c .atom-at-field .result) lt (c .atom-at-field .ensures)) in
-    let short = total-at held (c .atom-at-field .result - 1) in
-    (
+    let short = total-at held (c .atom-at-field .result - 1) in (
       known-on held (c .args .scope) (c .loop-i .i) (c .atom-at-field .result) lt (c .atom-at-field .ensures) (omega (arith, held-length (c .args .self .now) (c .args .tables .now) (c .pre))) ∙ c .loop-i .inv .0,
       omega (arith, c .loop-i .inv .1, c .min .ensures, short, ap length (c .atom .ensures), held-total (c .args .self .now) (c .args .tables .now) (c .pre), c .pre .short),
       omega (arith, c .loop-i .inv .2, c .min .ensures, ap length text, led-length (c .loop-i .i) (getD ts (c .loop-i .i) [])) ∙ sym (length-more ts (c .loop-i .i) in′),
@@ -48,8 +47,7 @@ pub returns : need.returns
 returns c =
     let held = held-by (c .args .self .now) (c .args .tables .now) in
     let fs = atoms-in (c .args .scope) in
-    let all : take (c .loop-i .i) (texts held fs) ≡ texts held fs = take-all (c .loop-i .i) (texts held fs) (omega (arith, texts-length held (c .args .scope), c .len-i-end .ensures .count)) in
-    (
+    let all : take (c .loop-i .i) (texts held fs) ≡ texts held fs = take-all (c .loop-i .i) (texts held fs) (omega (arith, texts-length held (c .args .scope), c .len-i-end .ensures .count)) in (
       sym (c .loop-i .inv .0) ∙ at-drop-all (given held) fs (c .loop-i .i) (omega (arith, c .len-i-end .ensures .count)),
       c .loop-i .inv .2 ∙ ap (λ l. length (dotted l)) all,
     )

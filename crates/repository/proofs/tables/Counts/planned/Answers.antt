@@ -23,15 +23,16 @@ loop-i-again c =
     let held = held-by (c .args .self .now) (c .args .tables .now) in
     let lt : c .loop-i .i < length ps = omega arith in
     let told = sym (c .is-new .ensures) in
-    elim (c .if-is-new .came)
-      [ then-is-new w ↦
-        let l = new-length held ps (c .loop-i .i) lt (told ∙ w .if-is-new .taken) in
-        let t = new-total held ps (c .loop-i .i) lt (told ∙ w .if-is-new .taken) in
-        let p = ap length (w .piece .ensures) in
-        (omega (arith, w .atoms-is), omega (arith, w .atoms-is), omega (arith, w .bytes-is, w .saturating-add-bytes .ensures))
+    elim (c .if-is-new .came) [
+      | then-is-new w ↦
+          let l = new-length held ps (c .loop-i .i) lt (told ∙ w .if-is-new .taken) in
+          let t = new-total held ps (c .loop-i .i) lt (told ∙ w .if-is-new .taken) in
+          let p = ap length (w .piece .ensures) in
+          (omega (arith, w .atoms-is), omega (arith, w .atoms-is), omega (arith, w .bytes-is, w .saturating-add-bytes .ensures))
       | else-is-new w ↦
-        let e = none-new held ps (c .loop-i .i) lt (told ∙ w .if-is-new .left) in
-        (omega (arith, w .atoms-is), omega (arith, w .atoms-is, ap length e), omega (arith, w .bytes-is, ap total e)) ]
+          let e = none-new held ps (c .loop-i .i) lt (told ∙ w .if-is-new .left) in
+          (omega (arith, w .atoms-is), omega (arith, w .atoms-is, ap length e), omega (arith, w .bytes-is, ap total e))
+    ]
 
 pub returns : need.returns
 returns c =

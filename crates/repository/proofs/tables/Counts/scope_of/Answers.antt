@@ -40,16 +40,15 @@ loop-i-again c =
     let ps = pieces (c .args .text .now) in
     let lt : c .loop-i .i < length ps = omega arith in
     let told = c .intern-number .ensures in
-    let inv = c .loop-i .inv in
-    (
+    let inv = c .loop-i .inv in (
       told .sound,
       front-more _ (c .loop-i .self) _ (c .loop-i .tables) _ (inv .1) (inv .2) (told .front),
       record { atoms = omega (arith, inv .2 .atoms, told .grows .atoms); bytes = omega (arith, inv .2 .bytes, told .grows .bytes) },
       ap (λ l. learned l (drop (c .loop-i .i + 1) ps)) (told .held) ∙ onward (held-by (c .args .self .now) (c .args .tables .now)) ps (c .loop-i .i) lt (held-by (c .loop-i .self) (c .loop-i .tables)) _ (inv .3) (c .piece .result .now) (c .piece .ensures),
       c .in-Some .ensures tt
-      ∙ ap (λ l. l ++ (c .intern-number .result + 1) ∷ []) (inv .4)
-      ∙ ap (λ n. fields-for (learned (held-by (c .args .self .now) (c .args .tables .now)) ps) (take (c .loop-i .i) ps) ++ (n + 1) ∷ []) (told .number)
-      ∙ sym (fields-more (held-by (c .args .self .now) (c .args .tables .now)) ps (c .loop-i .i) lt (held-by (c .loop-i .self) (c .loop-i .tables)) _ (inv .3) (c .piece .result .now) (c .piece .ensures)),
+          ∙ ap (λ l. l ++ (c .intern-number .result + 1) ∷ []) (inv .4)
+          ∙ ap (λ n. fields-for (learned (held-by (c .args .self .now) (c .args .tables .now)) ps) (take (c .loop-i .i) ps) ++ (n + 1) ∷ []) (told .number)
+          ∙ sym (fields-more (held-by (c .args .self .now) (c .args .tables .now)) ps (c .loop-i .i) lt (held-by (c .loop-i .self) (c .loop-i .tables)) _ (inv .3) (c .piece .result .now) (c .piece .ensures)),
     )
 
 pub returns : need.returns

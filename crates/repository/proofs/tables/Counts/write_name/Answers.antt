@@ -41,12 +41,11 @@ loop-i-again c =
     let lt : c .loop-i .i < length (atoms-in (c .args .scope)) = omega (arith, c .len-i-end .ensures .count) in
     let in′ : c .loop-i .i < length ts = omega (arith, texts-length held (c .args .scope)) in
     let text = c .atom .ensures ∙ sym (text-at held (c .args .scope) (c .loop-i .i) (c .atom-at-field .result) lt (c .atom-at-field .ensures)) in
-    let told = c .put-atom-at .ensures in
-    (
+    let told = c .put-atom-at .ensures in (
       omega (arith, told .end, c .loop-i .inv .0, ap (λ a. length (led (c .loop-i .i) a)) text, length-more ts (c .loop-i .i) in′),
       put-on (dotted (take (c .loop-i .i) ts)) (c .args .output .now) (c .loop-i .output) (c .put-atom-at .last .output) (led (c .loop-i .i) (c .atom .result .now)) (c .loop-i .at) (c .put-atom-at .result) (sym (c .loop-i .inv .0)) (c .loop-i .inv .1) (told .end) (told .after)
-      ∙ ap (λ a. (dotted (take (c .loop-i .i) ts) ++ led (c .loop-i .i) a) ++ drop (c .put-atom-at .result) (c .args .output .now)) text
-      ∙ ap (λ l. l ++ drop (c .put-atom-at .result) (c .args .output .now)) (sym (dotted-more ts (c .loop-i .i) in′)),
+          ∙ ap (λ a. (dotted (take (c .loop-i .i) ts) ++ led (c .loop-i .i) a) ++ drop (c .put-atom-at .result) (c .args .output .now)) text
+          ∙ ap (λ l. l ++ drop (c .put-atom-at .result) (c .args .output .now)) (sym (dotted-more ts (c .loop-i .i) in′)),
     )
 
 pub returns : need.returns

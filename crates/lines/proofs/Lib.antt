@@ -1,0 +1,2 @@
+-- Cut: a text before and behind a byte.
+pub mod Cut

@@ -1,2 +1,0 @@
--- Lines: where a line of a text ends, and what stands on it.
-pub mod Lines
