@@ -7,28 +7,42 @@ use crate::files::StoppedFromAllocError;
 use crate::files::StoppedFromError;
 use std::env;
 
-fn usage(rt: &LibcRuntime) -> Result<(), Stopped> {
-    eprintln!(rt, "usage: pane names FILE")?;
-    eprintln!(
-        rt,
-        "  names FILE   builds the scope names in FILE, one a line, and prints for each how many atoms it has,"
-    )?;
-    eprintln!(
-        rt,
-        "               its two words and its name, or why it is refused"
-    )?;
+const USAGE: &str = "usage: pane names FILE
+  names FILE   builds the scope names in FILE, one a line, and prints for each how many atoms it has,
+               its two words and its name, or why it is refused";
+
+// Says what is wrong with the command line, and what is right.
+fn misused(rt: &LibcRuntime, what: &str, word: &str) -> Result<(), Stopped> {
+    eprintln!(rt, "pane: {what}{word}")?;
+    eprintln!(rt, "{USAGE}")?;
     Err(Stopped)
 }
 
 // The command and its file, behind the program's own name.
 fn run(rt: &LibcRuntime, words: &[String]) -> Result<(), Stopped> {
-    if words.len() == 3 && words[1].as_str() == "names" {
-        return names::run(rt, words[2].as_str());
+    if words.len() < 2 {
+        return misused(rt, "a command is expected", "");
     }
-    usage(rt)
+    let command = words[1].as_str();
+    if command == "--help" {
+        println!(rt, "{USAGE}")?;
+        return Ok(());
+    }
+    if command != "names" {
+        return misused(rt, "there is no command ", command);
+    }
+    if words.len() != 3 {
+        return misused(rt, "one file is expected behind ", command);
+    }
+    names::run(rt, words[2].as_str())
 }
 
 fn main(rt: LibcRuntime) -> Result<(), Stopped> {
-    let words: Vec<String> = env::args(&rt)?.collect(rt.alloc())?;
-    run(&rt, words.as_slice())
+    match env::args(&rt) {
+        Ok(words) => {
+            let words: Vec<String> = words.collect(rt.alloc())?;
+            run(&rt, words.as_slice())
+        }
+        Err(_) => misused(&rt, "an argument cannot be read: it is no UTF-8 text, or memory is short", ""),
+    }
 }
