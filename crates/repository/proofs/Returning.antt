@@ -5,16 +5,14 @@ use mathlib.Core.Logic.{⊎-elim}
 use mathlib.Core.List.{List, [], _∷_, _++_}
 use Prim.Native.Nat.{ℕ, zero, suc, _+_, _-_, _≤_, _<_}
 use native.Mathlib.Omega.{arith}
-use lib.Dec.{ltb, leb}
+use lib.Dec.{ltb}
 use lib.ListN.{length, take, getD}
 use Rattle.std.specs.shelf.Lists.{All}
 use Rattle.std.specs.shelf.Text.{sameBytes}
-use Rattle.std.specs.declared.option.Option.{Option}
-use Rattle.std.specs.declared.option.Option.the-variants.{Some, None}
 use Rattle.std.proofs.shelf.Elements.{all-weaker}
 use Rattle.std.proofs.shelf.Equals.{sameBytes-decides}
 use Rattle.std.proofs.shelf.Lists.{append-nil, append-assoc, getD-append-left, length-append}
-use Rattle.std.proofs.shelf.Tests.{cases-bool, cond-true, cond-false, and-parts, and-from, le-leb, ltb-false, not-false, true≢false}
+use Rattle.std.proofs.shelf.Tests.{cases-bool, cond-true, cond-false, and-parts, and-from, le-leb}
 use Rattle.std.specs.Vec.{made}
 use Rattle.std.specs.declared.result.Result.{Result}
 use Rattle.std.specs.declared.result.Result.the-variants.{Ok, Err}
@@ -23,12 +21,11 @@ use Rattle.scopes.specs.declared.scope.Scope.{Scope}
 use Rattle.scopes.specs.Scopes.{atoms-in}
 use Rattle.repository.specs.Names.{Atom, Atoms, ascii, cut, dotted}
 use Rattle.repository.specs.Atoms.{has, place, news, total, seen, learned, fields-for}
-use Rattle.repository.specs.Refusals.{known, refusal}
 use Rattle.repository.specs.Builds.{Accepted, Builds}
 use Rattle.repository.specs.Writes.{given, texts, spelling}
 use Rattle.repository.specs.Laws.{Cuts, New-law, Later, Returns, Round-trip}
 use Rattle.repository.proofs.Places.{has-append, has-learned, has-itself, place-below, place-at, place-append, learned-news}
-use Rattle.repository.proofs.Builds.{accepted}
+use Rattle.repository.proofs.Builds.{accepted, was-ascii, was-eight}
 use Rattle.repository.proofs.Joins.{cut-cuts, cut-law}
 
 -- ---- each of some atoms is among them, and once learned is held
@@ -89,19 +86,6 @@ new-law held atoms = record {
   once = news-once held atoms;
   all = subst (λ l. Held l atoms) (learned-news held atoms) (learned-held held atoms);
 }
-
--- ---- what a name that was accepted shows
-
-passed : (n : ℕ) (t : Bool) (rest : Option ℕ) → cond t (Some n) rest ≡ None → (t ≡ false) × (rest ≡ None)
-passed n true rest e = absurd (let z : _≡_ {A = ℕ} 0 1 = cc in omega arith)
-passed n false rest e = (refl, e)
-
-module _ (held : Atoms) (name : List ℕ) (e : refusal held name ≡ None) where
-  pub was-ascii : ascii name ≡ true
-  was-ascii = not-false (ascii name) (passed 1 _ _ e .0)
-
-  pub was-eight : length (cut name) ≤ 8
-  was-eight = ltb-false 8 (length (cut name)) (passed 2 _ _ (passed 1 _ _ e .1) .0)
 
 ascii-front : (xs ys : List ℕ) → ascii (xs ++ ys) ≡ true → ascii xs ≡ true
 ascii-front [] ys h = refl

@@ -3,21 +3,32 @@ ghost use mathlib.Core.Path.{_≡_};
 ghost use mathlib.Core.Bool.{not};
 ghost use mathlib.Core.List.{[]};
 ghost use Prim.Native.Nat.{ℕ, _+_, _-_, _^_, _<_, _≤_, min};
+ghost use lib.Dec.{ltb};
 ghost use lib.ListN.{length, getD, take};
+ghost use Rattle.std.specs.Results.{Cases};
+ghost use Rattle.std.specs.declared.option.Option.the-variants.{Some, None};
 ghost use Rattle.scopes.specs.Scopes.{«atoms-in»};
 ghost use Rattle.repository.specs.Atoms.{has, total, learned, «fields-for»};
 ghost use Rattle.repository.specs.Builds.{Builds};
-ghost use Rattle.repository.specs.Names.{pieces};
+ghost use Rattle.repository.specs.Names.{cut, pieces};
+ghost use Rattle.repository.specs.Refusals.{number, refusal};
 ghost use Rattle.repository.specs.Tables.{Sound, Front, Grows, «held-by»};
 use crate::faults::NameFault;
 use crate::names::count_dots;
 use crate::names::is_ascii;
 use crate::names::is_repeated;
 use crate::names::piece;
-use crate::names::stripped_len;
+use crate::names::without_end_dots;
 use crate::tables::AtomTables;
 use crate::tables::Counts;
 use scopes::Scope;
+
+// Whether a count passes its limit.
+fn exceeds(count: usize, limit: usize) -> bool
+    ensures { λ r. ⌜ r ≡ ltb limit count ⌝ }
+{
+    count > limit
+}
 
 impl Counts {
     // Whether the piece of an index is neither held nor among those before it.
@@ -75,6 +86,30 @@ impl Counts {
         scope
     }
 
+    // How many atoms a name has, which is not empty, or the first refusal that applies to it.
+    fn admitted(&self, tables: &AtomTables, name: &[u8]) -> Result<usize, NameFault>
+        requires sound { ⌜ Sound (now self) (now tables) ⌝ }
+        requires some { ⌜ 0 < length (now name) ⌝ }
+        ensures { λ r. ⌜ Cases r (λ n. (refusal («held-by» (now (self .entry)) (now (tables .entry))) (now (name .entry)) ≡ None) × (n ≡ length (cut (now (name .entry))))) (λ f. refusal («held-by» (now (self .entry)) (now (tables .entry))) (now (name .entry)) ≡ Some (number f)) ⌝ }
+    {
+        if !is_ascii(name) {
+            return Err(NameFault::NotAscii);
+        }
+        let text = without_end_dots(name);
+        let dots = count_dots(text);
+        if exceeds(dots, 7) {
+            return Err(NameFault::TooLong);
+        }
+        let wanted = self.planned(tables, text, dots + 1);
+        if exceeds(wanted.atoms, 4096) {
+            return Err(NameFault::TooManyAtoms);
+        }
+        if exceeds(wanted.bytes, 65536) {
+            return Err(NameFault::TooMuchText);
+        }
+        Ok(dots + 1)
+    }
+
     // The scope of a name. Every refusal comes before the first atom is added.
     pub(crate) fn build(&mut self, tables: &mut AtomTables, name: &[u8]) -> Result<Scope, NameFault>
         requires { ⌜ Sound (now self) (now tables) ⌝ }
@@ -83,25 +118,12 @@ impl Counts {
         ensures grows { λ _. ⌜ Grows (now (self .entry)) (now (self .exit)) ⌝ }
         ensures builds { λ r. ⌜ Builds («held-by» (now (self .entry)) (now (tables .entry))) (now (name .entry)) r («held-by» (now (self .exit)) (now (tables .exit))) ⌝ }
     {
-        if !is_ascii(name) {
-            return Err(NameFault::NotAscii);
-        }
-        if name.len() == 0 {
+        if name.is_empty() {
             return Ok(Scope::empty());
         }
-        let end = stripped_len(name);
-        let text = &name[0..end];
-        let dots = count_dots(text);
-        if dots >= 8 {
-            return Err(NameFault::TooLong);
+        match self.admitted(tables, name) {
+            Ok(count) => Ok(self.scope_of(tables, without_end_dots(name), count)),
+            Err(fault) => Err(fault),
         }
-        let wanted = self.planned(tables, text, dots + 1);
-        if wanted.atoms > 4096 {
-            return Err(NameFault::TooManyAtoms);
-        }
-        if wanted.bytes > 65536 {
-            return Err(NameFault::TooMuchText);
-        }
-        Ok(self.scope_of(tables, text, dots + 1))
     }
 }

@@ -8,11 +8,17 @@ ghost use lib.ListN.{length, getD, take, drop};
 ghost use Rattle.repository.specs.Atoms.{has};
 ghost use Rattle.repository.specs.Names.{ascii, stripped, pieces};
 
+fn is_plain(b: u8) -> bool
+    ensures { λ r. ⌜ r ≡ ltb b 128 ⌝ }
+{
+    b < 128
+}
+
 pub(crate) fn is_ascii(name: &[u8]) -> bool
     ensures { λ r. ⌜ r ≡ ascii (now (name .entry)) ⌝ }
 {
     for b in name {
-        if *b >= 128 {
+        if !is_plain(*b) {
             return false;
         }
     }
@@ -20,7 +26,7 @@ pub(crate) fn is_ascii(name: &[u8]) -> bool
 }
 
 // Where the name ends without the dots at its end.
-pub(crate) fn stripped_len(name: &[u8]) -> usize
+fn stripped_len(name: &[u8]) -> usize
     ensures within { λ r. ⌜ r ≤ length (now (name .entry)) ⌝ }
     ensures front { λ r. ⌜ take r (now (name .entry)) ≡ stripped (now (name .entry)) ⌝ }
 {
@@ -29,6 +35,14 @@ pub(crate) fn stripped_len(name: &[u8]) -> usize
         end -= 1;
     }
     end
+}
+
+// The name without the dots at its end.
+pub(crate) fn without_end_dots(name: &[u8]) -> &[u8]
+    ensures { λ r. ⌜ now r ≡ stripped (now (name .entry)) ⌝ }
+{
+    let end = stripped_len(name);
+    &name[0..end]
 }
 
 // How many dots there are, one fewer than the pieces.

@@ -62,7 +62,8 @@ impl Counts {
         ensures { λ _. ⌜ now (output .exit) ≡ spelling («held-by» (now (self .entry)) (now (tables .entry))) scope ++ drop (length (spelling («held-by» (now (self .entry)) (now (tables .entry))) scope)) (now (output .entry)) ⌝ }
     {
         let mut at: usize = 0;
-        for i in 0..scope.len() as usize {
+        let count = scope.len() as usize;
+        for i in 0..count {
             let field = scope.atom_at(i) as usize;
             at = put_atom(output, at, i, self.atom(tables, field - 1));
         }

@@ -2,7 +2,8 @@
 ghost use mathlib.Core.Path.{_≡_};
 ghost use mathlib.Core.List.{[], _∷_, _++_};
 ghost use mathlib.Core.Bool.{true};
-ghost use Prim.Native.Nat.{ℕ, _+_, _-_, _<_, _≤_};
+ghost use Prim.Native.Nat.{ℕ, _+_, _-_, _*_, _/_, _^_, _<_, _≤_};
+ghost use lib.Count.{trailingZeros};
 ghost use lib.ListN.{length, getD, set};
 ghost use lib.Dec.{eqb};
 ghost use Rattle.std.specs.Options.{Cases, isSome};
@@ -31,6 +32,27 @@ fn are_packed(a: u64, b: u64) -> bool
     ensures { λ r. ⌜ r ≡ packed (fields a b) ⌝ }
 {
     is_packed(a) && is_packed(b) && (b == 0 || a % 65536 != 0)
+}
+
+// How many bits of a word lie in the unused fields at its end.
+fn unused_bits(w: u64) -> u32
+    ensures { λ r. ⌜ r ≡ trailingZeros 64 w / 16 * 16 ⌝ }
+{
+    w.trailing_zeros() / 16 * 16
+}
+
+fn are_same(x: u64, y: u64) -> bool
+    ensures { λ r. ⌜ r ≡ eqb x y ⌝ }
+{
+    x == y
+}
+
+// Whether two words are the same but for some bits at their end.
+fn same_above(x: u64, y: u64, low: u32) -> bool
+    requires { ⌜ low < 64 ⌝ }
+    ensures { λ r. ⌜ r ≡ eqb (x / 2 ^ low) (y / 2 ^ low) ⌝ }
+{
+    x >> low == y >> low
 }
 
 impl Scope {
@@ -97,11 +119,9 @@ impl Scope {
         ensures test { λ r. ⌜ r ≡ begins self other ⌝ }
     {
         if self.b != 0 {
-            let low = self.b.trailing_zeros() / 16 * 16;
-            self.a == other.a && self.b >> low == other.b >> low
+            are_same(self.a, other.a) && same_above(self.b, other.b, unused_bits(self.b))
         } else if self.a != 0 {
-            let low = self.a.trailing_zeros() / 16 * 16;
-            self.a >> low == other.a >> low
+            same_above(self.a, other.a, unused_bits(self.a))
         } else {
             true
         }

@@ -1,81 +1,57 @@
 use mathlib.Core.Path.{_≡_, refl, sym, ap, _∙_}
-use mathlib.Core.Bool.{true, false}
 use mathlib.Core.List.{[]}
-use Prim.Native.Nat.{ℕ, _-_, _≤_, _<_}
+use Prim.Native.Nat.{_<_}
+use borrow.Author.Needs.{needs}
 use native.Mathlib.Omega.{arith}
-use lib.ListN.{length, take}
-use Rattle.std.proofs.shelf.Lists.{append-nil, nil-from-length}
+use lib.ListN.{length}
+use Rattle.std.proofs.shelf.Lists.{nil-from-length}
+use Rattle.std.proofs.shelf.Tests.{eqb-true}
 use Rattle.repository.specs.Atoms.{learned, fields-for, total}
-use Rattle.repository.specs.Names.{cut, pieces, ascii}
+use Rattle.repository.specs.Names.{cut, ascii, pieces}
 use Rattle.repository.specs.Tables.{held-by}
-use Rattle.repository.specs.Refusals.{refusal}
 use Rattle.repository.proofs.Held.{front-none, grows-none, held-length, held-total}
-use Rattle.repository.proofs.Builds.{cut-is, refused-1, refused-2, refused-3, refused-4, accepted}
+use Rattle.repository.proofs.Places.{learned-news}
+use Rattle.repository.proofs.Builds.{cut-is, accepted, was-eight, was-few, was-short, made}
 use Rattle.repository.proofs.tables.Counts.build.Needs as need
 
-pub returns-then-name-eq0 : need.returns-then-name-eq0
-returns-then-name-eq0 c =
+pub returns-then-is-empty : need.returns-then-is-empty
+returns-then-is-empty c =
     let held = held-by (c .args .self .now) (c .args .tables .now) in
-    let none : c .args .name .now ≡ [] = nil-from-length (c .args .name .now) (c .if-name-eq0 .taken) in
+    let none : c .args .name .now ≡ [] = nil-from-length (c .args .name .now) (eqb-true _ 0 (sym (c .is-empty .ensures) ∙ c .if-is-empty .taken)) in
     let nothing : cut (c .args .name .now) ≡ [] = ap cut none in
     record {
       sound = c .pre;
       front = front-none (c .args .self .now) (c .args .tables .now);
       grows = grows-none (c .args .self .now);
-      builds = accepted held (c .args .name .now) (sym (c .is-ascii .ensures) ∙ c .if-not-is-ascii .left) (omega (arith, ap length nothing)) held (sym (ap (learned held) nothing)) (omega (arith, held-length (c .args .self .now) (c .args .tables .now) (c .pre), c .pre .few)) (omega (arith, held-total (c .args .self .now) (c .args .tables .now) (c .pre), c .pre .short)) (c .empty .result) (c .empty .ensures ∙ sym (ap (fields-for held) nothing)) held refl;
+      builds = accepted held (c .args .name .now) (ap ascii none) (omega (arith, ap length nothing)) held (sym (ap (learned held) nothing)) (omega (arith, held-length (c .args .self .now) (c .args .tables .now) (c .pre), c .pre .few)) (omega (arith, held-total (c .args .self .now) (c .args .tables .now) (c .pre), c .pre .short)) (c .empty .result) (c .empty .ensures ∙ sym (ap (fields-for held) nothing)) held refl;
     }
 
-pub returns-then-wanted-gt4096 : need.returns-then-wanted-gt4096
-returns-then-wanted-gt4096 c =
+pub scope-of-requires : need.scope-of-requires
+scope-of-requires c κs =
     let held = held-by (c .args .self .now) (c .args .tables .now) in
-    let cuts = cut-is (c .args .name .now) (c .stripped-len-end .result) (omega arith) (c .stripped-len-end .ensures .front) in
+    let name = c .args .name .now in
+    let told = c .in-Ok .ensures tt in
+    let some : 0 < length name = search needs in
+    let cuts = cut-is name (c .without-end-dots .result .now) some (c .without-end-dots .ensures) in
+    let all = sym (learned-news held (cut name)) ∙ ap (learned held) cuts in
     record {
       sound = c .pre;
-      front = front-none (c .args .self .now) (c .args .tables .now);
-      grows = grows-none (c .args .self .now);
-      builds = record {
-        first = refused-3 held (c .args .name .now) (sym (c .is-ascii .ensures) ∙ c .if-not-is-ascii .left) (omega (arith, ap length cuts, c .count-dots-dots .ensures)) (learned held (pieces (take (c .stripped-len-end .result - 0) (c .args .name .now)))) (ap (learned held) (sym cuts)) (omega (arith, c .planned-wanted .ensures .atoms));
-        atoms = refl;
-      };
+      all = told .1 ∙ ap length cuts;
+      eight = omega (arith, told .1, was-eight held name (told .0));
+      few = omega (arith, ap length all, was-few held name (told .0));
+      short = omega (arith, ap total all, was-short held name (told .0));
     }
 
-pub returns-then-wanted-gt65536 : need.returns-then-wanted-gt65536
-returns-then-wanted-gt65536 c =
+pub returns-in-Ok : need.returns-in-Ok
+returns-in-Ok c =
     let held = held-by (c .args .self .now) (c .args .tables .now) in
-    let cuts = cut-is (c .args .name .now) (c .stripped-len-end .result) (omega arith) (c .stripped-len-end .ensures .front) in
-    record {
-      sound = c .pre;
-      front = front-none (c .args .self .now) (c .args .tables .now);
-      grows = grows-none (c .args .self .now);
-      builds = record {
-        first = refused-4 held (c .args .name .now) (sym (c .is-ascii .ensures) ∙ c .if-not-is-ascii .left) (omega (arith, ap length cuts, c .count-dots-dots .ensures)) (learned held (pieces (take (c .stripped-len-end .result - 0) (c .args .name .now)))) (ap (learned held) (sym cuts)) (omega (arith, c .planned-wanted .ensures .atoms)) (omega (arith, c .planned-wanted .ensures .bytes));
-        atoms = refl;
-      };
-    }
-
-pub returns-then-dots-ge8 : need.returns-then-dots-ge8
-returns-then-dots-ge8 c =
-    let held = held-by (c .args .self .now) (c .args .tables .now) in
-    let cuts = cut-is (c .args .name .now) (c .stripped-len-end .result) (omega arith) (c .stripped-len-end .ensures .front) in
-    record {
-      sound = c .pre;
-      front = front-none (c .args .self .now) (c .args .tables .now);
-      grows = grows-none (c .args .self .now);
-      builds = record {
-        first = refused-2 held (c .args .name .now) (sym (c .is-ascii .ensures) ∙ c .if-not-is-ascii .left) (omega (arith, ap length cuts, c .count-dots-dots .ensures));
-        atoms = refl;
-      };
-    }
-
-pub returns : need.returns
-returns c =
-    let held = held-by (c .args .self .now) (c .args .tables .now) in
-    let cuts = cut-is (c .args .name .now) (c .stripped-len-end .result) (omega arith) (c .stripped-len-end .ensures .front) in
-    let ps = pieces (take (c .stripped-len-end .result - 0) (c .args .name .now)) in
+    let name = c .args .name .now in
+    let some : 0 < length name = search needs in
+    let cuts = cut-is name (c .without-end-dots .result .now) some (c .without-end-dots .ensures) in
     let told = c .scope-of .ensures in
     record {
       sound = told .sound;
       front = told .front;
       grows = told .grows;
-      builds = accepted held (c .args .name .now) (sym (c .is-ascii .ensures) ∙ c .if-not-is-ascii .left) (omega (arith, ap length cuts, c .count-dots-dots .ensures)) (learned held ps) (ap (learned held) (sym cuts)) (omega (arith, c .planned-wanted .ensures .atoms)) (omega (arith, c .planned-wanted .ensures .bytes)) (c .scope-of .result) (told .fields ∙ ap (fields-for (learned held ps)) (sym cuts)) (held-by (c .scope-of .last .self) (c .scope-of .last .tables)) (told .held);
+      builds = made held name (c .in-Ok .ensures tt .0) (c .without-end-dots .result .now) cuts (c .scope-of .result) (held-by (c .scope-of .last .self) (c .scope-of .last .tables)) (told .held) (told .fields);
     }
