@@ -43,6 +43,10 @@ fn main(rt: LibcRuntime) -> Result<(), Stopped> {
             let words: Vec<String> = words.collect(rt.alloc())?;
             run(&rt, words.as_slice())
         }
-        Err(_) => misused(&rt, "an argument cannot be read: it is no UTF-8 text, or memory is short", ""),
+        Err(_) => misused(
+            &rt,
+            "an argument cannot be read: it is no UTF-8 text, or memory is short",
+            "",
+        ),
     }
 }

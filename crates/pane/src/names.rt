@@ -1,4 +1,15 @@
 // `pane names FILE`: builds the scope names of a file, one a line.
+ghost use mathlib.Core.Path.{_≡_};
+ghost use mathlib.Core.Bool.{true, not, cond};
+ghost use Prim.Native.Nat.{_+_, _^_, _<_, _≤_};
+ghost use lib.ListN.{length};
+ghost use Rattle.std.specs.Options.{isSome};
+ghost use Rattle.std.specs.Vec.{made};
+ghost use Rattle.scopes.specs.Scopes.{«atoms-in»};
+ghost use Rattle.repository.specs.Held.{«atoms-of»};
+ghost use Rattle.repository.specs.Refusals.{refusal};
+ghost use Rattle.repository.specs.Writes.{given, spelling};
+ghost use Rattle.pane.specs.Listing.{next, Listing};
 use crate::files::Stopped;
 use crate::files::StoppedFromAllocError;
 use crate::files::StoppedFromError;
@@ -7,13 +18,9 @@ use lines::split;
 use lines::trimmed;
 use repository::NameFault;
 use repository::ScopeRepository;
-use repository::WriteFault;
 use scopes::Scope;
 use std::io::BufWriter;
 use std::io::Write;
-
-// The longest name that can be written: one atom of all the text, eight times, and the dots between.
-const LONGEST: usize = 8 * 65536 + 7;
 
 fn name_reason(fault: NameFault) -> &'static str {
     match fault {
@@ -25,17 +32,54 @@ fn name_reason(fault: NameFault) -> &'static str {
     }
 }
 
-fn write_reason(fault: WriteFault) -> &'static str {
-    match fault {
-        WriteFault::UnknownAtom => "an atom's number was not given out",
-        WriteFault::ShortOutput => "the output is shorter than the name",
-    }
-}
-
 #[derive(Clone, Copy)]
 struct Tally {
     read: usize,
     scopes: usize,
+}
+
+impl Tally {
+    // With one name more.
+    fn counted(self, scope: bool) -> Tally
+        requires fits { ⌜ self .read + 1 < 2 ^ 64 ⌝ }
+        requires fewer { ⌜ self .scopes ≤ self .read ⌝ }
+        ensures read { λ r. ⌜ r .read ≡ self .read + 1 ⌝ }
+        ensures scopes { λ r. ⌜ r .scopes ≡ self .scopes + cond scope 1 0 ⌝ }
+    {
+        if scope {
+            Tally {
+                read: self.read + 1,
+                scopes: self.scopes + 1,
+            }
+        } else {
+            Tally {
+                read: self.read + 1,
+                scopes: self.scopes,
+            }
+        }
+    }
+}
+
+// Prints a scope that this repository built; the buffer has room for its name.
+fn print_scope(
+    out: &mut impl Write,
+    repository: &ScopeRepository,
+    scope: Scope,
+    buffer: &mut [u8],
+) -> Result<(), Stopped>
+    requires given { ⌜ given («atoms-of» (now repository)) («atoms-in» scope) ≡ true ⌝ }
+    requires room { ⌜ length (spelling («atoms-of» (now repository)) scope) ≤ length (now buffer) ⌝ }
+{
+    match repository.write(scope, buffer) {
+        Ok(count) => {
+            let (a, b) = scope.words();
+            write!(out, "{} {a:016x} {b:016x} ", scope.len())?;
+            out.write_all(&buffer[0..count])?;
+            out.write_all(b"\n")?;
+            Ok(())
+        }
+        Err(_) => unreachable(),
+    }
 }
 
 // Prints what one name came to, and answers whether it is a scope.
@@ -44,24 +88,17 @@ fn print_name(
     repository: &mut ScopeRepository,
     name: &[u8],
     buffer: &mut [u8],
-) -> Result<bool, Stopped> {
-    let scope = match repository.build(name) {
-        Ok(scope) => scope,
-        Err(fault) => {
-            writeln!(out, "refused {}: {}", fault.number(), name_reason(fault))?;
-            return Ok(false);
-        }
-    };
-    match repository.write(scope, buffer) {
-        Ok(count) => {
-            let (a, b) = scope.words();
-            write!(out, "{} {a:016x} {b:016x} ", scope.len())?;
-            out.write_all(&buffer[0..count])?;
-            out.write_all(b"\n")?;
+) -> Result<bool, Stopped>
+    requires { ⌜ length (now name) ≤ length (now buffer) ⌝ }
+    ensures { λ r. ⌜ made r (λ scope. (scope ≡ not (isSome (refusal («atoms-of» (now (repository .entry))) (now (name .entry))))) × («atoms-of» (now (repository .exit)) ≡ next («atoms-of» (now (repository .entry))) (now (name .entry)))) ⌝ }
+{
+    match repository.build(name) {
+        Ok(scope) => {
+            print_scope(out, repository, scope, buffer)?;
             Ok(true)
         }
         Err(fault) => {
-            writeln!(out, "refused {}: {}", fault.number(), write_reason(fault))?;
+            writeln!(out, "refused {}: {}", fault.number(), name_reason(fault))?;
             Ok(false)
         }
     }
@@ -71,21 +108,22 @@ fn plural(count: usize, one: &'static str, many: &'static str) -> &'static str {
     if count == 1 { one } else { many }
 }
 
-// Prints what each line's name came to.
+// Prints what the name on each line came to, and counts.
 fn list(
     out: &mut impl Write,
     repository: &mut ScopeRepository,
     text: &[u8],
     buffer: &mut [u8],
-) -> Result<Tally, Stopped> {
+) -> Result<Tally, Stopped>
+    requires { ⌜ length (now text) ≤ length (now buffer) ⌝ }
+    ensures { λ r. ⌜ made r (λ tally. Listing (now (text .entry)) («atoms-of» (now (repository .entry))) tally («atoms-of» (now (repository .exit)))) ⌝ }
+{
     let mut tally = Tally { read: 0, scopes: 0 };
     let mut rest = text;
     while !rest.is_empty() {
         let (line, after) = split(rest, b'\n');
-        if print_name(out, repository, trimmed(line), buffer)? {
-            tally.scopes += 1;
-        }
-        tally.read += 1;
+        let scope = print_name(out, repository, trimmed(line), buffer)?;
+        tally = tally.counted(scope);
         rest = after;
     }
     Ok(tally)
@@ -115,7 +153,7 @@ fn sum_up(out: &mut impl Write, repository: &ScopeRepository, tally: Tally) -> R
 
 pub(crate) fn run(rt: &LibcRuntime, path: &str) -> Result<(), Stopped> {
     let text = read(rt, path, "scope names are expected, one a line")?;
-    let mut buffer = vec![in rt.alloc(); 0u8; LONGEST]?;
+    let mut buffer = vec![in rt.alloc(); 0u8; text.len()]?;
     let mut out = BufWriter::new(rt.stdout());
     let mut repository = ScopeRepository::new();
     let tally = list(

@@ -140,23 +140,25 @@ module _ (held : Atoms) (name : List ℕ) (s : Scope) (after : Atoms) (a : Accep
   all-held : Held after (cut name)
   all-held = subst (λ l. Held l (cut name)) (learned-news held (cut name) ∙ sym (a .atoms)) (learned-held held (cut name))
 
-  pub returning : Round-trip after s
-  returning later l some =
+  pub returning : Round-trip after name s
+  returning later l =
       let ps = cut name in
       let c = cut-cuts name in
       let more = l .more in
       let fields : atoms-in s ≡ fields-for after ps = a .fields in
       let text : texts later (atoms-in s) ≡ ps = (λ i. texts (l .begins i) (fields i)) ∙ texts-back after more ps all-held in
       let spelled : spelling later s ≡ dotted ps = ap dotted text in
-      let again : cut (spelling later s) ≡ ps = ap cut spelled ∙ cut-again name ps c (λ e. some (text ∙ e)) in
       let plain : ascii (spelling later s) ≡ true = ap ascii spelled ∙ ascii-front (dotted ps) (c .ending) (sym (ap ascii (c .whole)) ∙ was-ascii held name (a .unrefused)) in
       let still : Held later ps = subst (λ m. Held m ps) (sym (l .begins)) (held-grows after more ps all-held) in
       record {
         written = (λ i. given (l .begins i) (fields i)) ∙ given-back after more ps all-held;
-        built = accepted later (spelling later s) plain (omega (arith, ap length again, was-eight held name (a .unrefused))) later (sym (ap (learned later) again ∙ learned-none later ps still)) (l .few) (l .short) s (fields ∙ sym ((λ i. fields-for (l .begins i) (again i)) ∙ fields-back after more ps all-held)) later refl;
+        spelled = spelled;
+        built = λ some.
+            let again : cut (spelling later s) ≡ ps = ap cut spelled ∙ cut-again name ps c some in
+            accepted later (spelling later s) plain (omega (arith, ap length again, was-eight held name (a .unrefused))) later (sym (ap (learned later) again ∙ learned-none later ps still)) (l .few) (l .short) s (fields ∙ sym ((λ i. fields-for (l .begins i) (again i)) ∙ fields-back after more ps all-held)) later refl;
       }
 
 -- the same of whatever `build` answered
-pub returns-built : (held : Atoms) (name : List ℕ) (r : Result Scope NameFault) (after : Atoms) → Builds held name r after → made r (λ s. Round-trip after s)
+pub returns-built : (held : Atoms) (name : List ℕ) (r : Result Scope NameFault) (after : Atoms) → Builds held name r after → made r (λ s. Round-trip after name s)
 returns-built held name (Ok s) after b = returning held name s after b
 returns-built held name (Err f) after b = tt

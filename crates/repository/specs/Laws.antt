@@ -10,7 +10,7 @@ use Rattle.scopes.specs.Scopes.{atoms-in}
 use Rattle.repository.specs.Names.{Atoms, dotted, cut}
 use Rattle.repository.specs.Atoms.{has, total, news}
 use Rattle.repository.specs.Builds.{Accepted}
-use Rattle.repository.specs.Writes.{given, texts, spelling}
+use Rattle.repository.specs.Writes.{given, spelling}
 
 -- a name is its atoms joined by dots, with some dots behind them
 pub record Cuts (name : List ℕ) (atoms : Atoms) : Type 0 where
@@ -43,11 +43,14 @@ pub record Later (held later : Atoms) : Type 0 where
   pub few : length later ≤ 4096
   pub short : total later ≤ 65536
 
--- what is written of a scope, built again, is that scope, and the atoms stay as they are
-pub record Returns (held : Atoms) (s : Scope) : Type 0 where
+-- a scope that was built from a name, in such a repository: its numbers were given out; its name is that name without
+-- the dots at its end; and that, built again, is the scope, and the atoms stay as they are. The exception is one empty
+-- atom, whose name is the empty name
+pub record Returns (held : Atoms) (name : List ℕ) (s : Scope) : Type 0 where
   pub written : given held (atoms-in s) ≡ true
-  pub built : Accepted held (spelling held s) s held
+  pub spelled : spelling held s ≡ dotted (cut name)
+  pub built : (cut name ≡ [] ∷ [] → ⊥) → Accepted held (spelling held s) s held
 
--- so it is in every later repository, unless the scope's one atom is empty: its name is the empty name
-abbrev pub Round-trip : Atoms → Scope → Type 0
-Round-trip held s = (later : Atoms) → Later held later → (texts later (atoms-in s) ≡ [] ∷ [] → ⊥) → Returns later s
+-- so it is in every later repository
+abbrev pub Round-trip : Atoms → List ℕ → Scope → Type 0
+Round-trip held name s = (later : Atoms) → Later held later → Returns later name s

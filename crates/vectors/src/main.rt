@@ -27,7 +27,10 @@ pub(crate) trait Record {
 
 fn replay<R: Record>(text: &[u8]) -> Tally {
     let mut repository = ScopeRepository::new();
-    let mut tally = Tally { records: 0, agree: 0 };
+    let mut tally = Tally {
+        records: 0,
+        agree: 0,
+    };
     let mut rest = text;
     while !rest.is_empty() {
         let (record, after) = split(rest, b'\n');
@@ -41,7 +44,11 @@ fn replay<R: Record>(text: &[u8]) -> Tally {
 }
 
 fn print(rt: &LibcRuntime, what: &str, tally: Tally) -> io::Result<()> {
-    println!(rt, "{what}: {} of {} agree with the reference", tally.agree, tally.records)?;
+    println!(
+        rt,
+        "{what}: {} of {} agree with the reference",
+        tally.agree, tally.records
+    )?;
     if tally.agree < tally.records {
         return Err(io::Error::from(ErrorKind::InvalidData));
     }

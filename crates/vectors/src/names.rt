@@ -46,7 +46,9 @@ pub(crate) impl Record for Names as NamesRecord {
             Ok(scope) => {
                 let (len, rest) = split(answer, b'\t');
                 let (fields, written) = split(rest, b'\t');
-                is_number(len, scope.len()) && has_fields(fields, scope) && is_written(repository, scope, written)
+                is_number(len, scope.len())
+                    && has_fields(fields, scope)
+                    && is_written(repository, scope, written)
             }
             Err(fault) => match fault {
                 NameFault::TooLong => answer == b"refused",

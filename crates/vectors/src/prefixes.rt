@@ -15,6 +15,10 @@ pub(crate) impl Record for Prefixes as PrefixesRecord {
         let Ok(s) = repository.build(second) else {
             return false;
         };
-        if p.is_prefix_of(s) { answer == b"true" } else { answer == b"false" }
+        if p.is_prefix_of(s) {
+            answer == b"true"
+        } else {
+            answer == b"false"
+        }
     }
 }

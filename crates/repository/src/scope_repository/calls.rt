@@ -49,7 +49,7 @@ impl ScopeRepository {
         ensures builds { λ r. ⌜ Builds («atoms-of» (now (self .entry))) (now (name .entry)) r («atoms-of» (now (self .exit))) ⌝ }
         ensures cut { λ _. ⌜ «Cut-law» (now (name .entry)) ⌝ }
         ensures new { λ _. ⌜ «New-law» («atoms-of» (now (self .entry))) (cut (now (name .entry))) ⌝ }
-        ensures returns { λ r. ⌜ made r (λ s. «Round-trip» («atoms-of» (now (self .exit))) s) ⌝ }
+        ensures returns { λ r. ⌜ made r (λ s. «Round-trip» («atoms-of» (now (self .exit))) (now (name .entry)) s) ⌝ }
     {
         self.counts.build(&mut self.tables, name)
     }

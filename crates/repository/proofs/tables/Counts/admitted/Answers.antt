@@ -38,8 +38,7 @@ returns c =
     let few = ltb-false 4096 _ (sym (c .exceeds-2 .ensures) ∙ c .if-exceeds-2 .left) in
     let short = ltb-false 65536 _ (sym (c .exceeds-3 .ensures) ∙ c .if-exceeds-3 .left) in
     let held = held-by (c .args .self .now) (c .args .tables .now) in
-    let cuts = cut-is (c .args .name .now) (c .without-end-dots-text .result .now) (c .pre .some) (c .without-end-dots-text .ensures) in
-    (
+    let cuts = cut-is (c .args .name .now) (c .without-end-dots-text .result .now) (c .pre .some) (c .without-end-dots-text .ensures) in (
       unrefused held (c .args .name .now) (sym (c .is-ascii .ensures) ∙ c .if-not-is-ascii .left) (omega (arith, ap length cuts, c .count-dots-dots .ensures)) (learned held (pieces (c .without-end-dots-text .result .now))) (ap (learned held) (sym cuts)) (omega (arith, c .planned-wanted .ensures .atoms)) (omega (arith, c .planned-wanted .ensures .bytes)),
       omega (arith, ap length cuts, c .count-dots-dots .ensures),
     )
