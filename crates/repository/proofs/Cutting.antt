@@ -1,14 +1,14 @@
 -- Names cut at their dots, and the dots at their end.
-use mathlib.Core.Path.{_≡_, refl, sym, ap, subst, _∙_}
-use mathlib.Core.Bool.{Bool, true, false, cond, _&&_}
-use mathlib.Core.Logic.{_⊎_, inl, inr, ⊎-elim}
+use mathlib.Core.Path.{_≡_, refl, sym, ap, _∙_}
+use mathlib.Core.Bool.{true, false, cond, _&&_}
+use mathlib.Core.Logic.{_⊎_, ⊎-elim}
 use mathlib.Core.List.{List, [], _∷_, _++_}
-use Prim.Native.Nat.{ℕ, zero, suc, _+_, _-_, _≤_, _<_}
+use Prim.Native.Nat.{ℕ, _+_, _-_, _≤_, _<_}
 use native.Mathlib.Omega.{arith}
 use lib.Dec.{eqb, ltb}
 use lib.ListN.{length, take, drop, getD}
-use Rattle.std.proofs.shelf.Lists.{take-more, drop-more, append-nil, append-assoc, getD-drop, length-drop, drop-drop, at-drop-more, at-drop-all}
-use Rattle.std.proofs.shelf.Tests.{cases-bool, cases-lt, cond-true, cond-false, eq-eqb, ne-eqb, lt-ltb, le-ltb, and-left}
+use Rattle.std.proofs.shelf.Lists.{take-more, append-nil, append-assoc, getD-drop, length-drop, drop-drop, at-drop-more, at-drop-all}
+use Rattle.std.proofs.shelf.Tests.{cases-lt, cond-true, cond-false, eq-eqb, ne-eqb, lt-ltb, le-ltb, and-left}
 use Rattle.repository.specs.Names.{Atoms, dots, stripped, before, pieces}
 
 -- ---- pieces

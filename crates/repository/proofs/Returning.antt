@@ -1,9 +1,9 @@
 -- A scope's name, built again, is the scope.
 use mathlib.Core.Path.{_≡_, refl, sym, ap, subst, _∙_}
-use mathlib.Core.Bool.{Bool, true, false, not, cond, _&&_}
+use mathlib.Core.Bool.{Bool, true, false, cond}
 use mathlib.Core.Logic.{⊎-elim}
 use mathlib.Core.List.{List, [], _∷_, _++_}
-use Prim.Native.Nat.{ℕ, zero, suc, _+_, _-_, _≤_, _<_}
+use Prim.Native.Nat.{ℕ, zero, suc, _+_, _-_, _<_}
 use native.Mathlib.Omega.{arith}
 use lib.Dec.{ltb}
 use lib.ListN.{length, take, getD}
@@ -20,11 +20,11 @@ use Rattle.repository.specs.declared.faults.NameFault.{NameFault}
 use Rattle.scopes.specs.declared.scope.Scope.{Scope}
 use Rattle.scopes.specs.Scopes.{atoms-in}
 use Rattle.repository.specs.Names.{Atom, Atoms, ascii, cut, dotted}
-use Rattle.repository.specs.Atoms.{has, place, news, total, seen, learned, fields-for}
+use Rattle.repository.specs.Atoms.{has, place, news, learned, fields-for}
 use Rattle.repository.specs.Builds.{Accepted, Builds}
 use Rattle.repository.specs.Writes.{given, texts, spelling}
-use Rattle.repository.specs.Laws.{Cuts, New-law, Later, Returns, Round-trip}
-use Rattle.repository.proofs.Places.{has-append, has-learned, has-itself, place-below, place-at, place-append, learned-news}
+use Rattle.repository.specs.Laws.{Cuts, New-law, Round-trip}
+use Rattle.repository.proofs.Places.{has-append, has-learned, place-below, place-at, place-append, learned-news}
 use Rattle.repository.proofs.Builds.{accepted, was-ascii, was-eight}
 use Rattle.repository.proofs.Joins.{cut-cuts, cut-law}
 

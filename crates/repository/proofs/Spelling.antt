@@ -1,13 +1,11 @@
 -- Atoms joined by dots, one after the other.
 use mathlib.Core.Path.{_≡_, refl, sym, ap, _∙_}
-use mathlib.Core.Bool.{true, false, _&&_}
 use mathlib.Core.List.{List, [], _∷_, _++_}
 use Prim.Native.Nat.{ℕ, zero, suc, _+_, _-_, _≤_, _<_, min}
 use native.Mathlib.Omega.{arith}
-use lib.Dec.{leb}
 use lib.ListN.{length, take, drop, getD}
 use Rattle.std.specs.shelf.Lists.{joined}
-use Rattle.std.proofs.shelf.Lists.{take-more, take-append-drop, append-nil, append-assoc, joined-more, length-append, length-take-le, take-all, drop-drop, take-at, drop-at}
+use Rattle.std.proofs.shelf.Lists.{take-more, take-append-drop, append-nil, append-assoc, joined-more, length-append, length-take-le, drop-drop, take-at, drop-at}
 use Rattle.repository.specs.Names.{Atom, Atoms, dotted, led}
 
 pub led-length : (i : ℕ) (a : Atom) → length (led i a) ≡ min i 1 + length a

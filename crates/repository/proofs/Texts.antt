@@ -1,11 +1,11 @@
 -- The text of the atom in each field of a scope.
-use mathlib.Core.Path.{_≡_, refl, sym, ap, _∙_}
-use mathlib.Core.Bool.{Bool, true, false, not, _&&_}
+use mathlib.Core.Path.{_≡_, sym, ap, _∙_}
+use mathlib.Core.Bool.{true, false, not, _&&_}
 use mathlib.Core.List.{List, [], _∷_}
 use Prim.Native.Nat.{ℕ, zero, suc, _+_, _-_, _≤_, _<_}
 use native.Mathlib.Omega.{arith}
 use lib.Dec.{leb, ltb}
-use lib.ListN.{length, take, drop, getD}
+use lib.ListN.{length, drop, getD}
 use Rattle.std.proofs.shelf.Lists.{at-drop-more, getD-map, length-map}
 use Rattle.std.proofs.shelf.Tests.{and-parts, and-left, cond-false, not-from-true, leb-true, le-leb, lt-leb, le-ltb}
 use Rattle.std.specs.declared.option.Option.the-variants.{Some, None}

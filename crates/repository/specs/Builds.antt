@@ -10,7 +10,7 @@ use Rattle.scopes.specs.Scopes.{atoms-in}
 use Rattle.repository.specs.declared.faults.NameFault.{NameFault}
 use Rattle.repository.specs.Names.{Atoms, cut}
 use Rattle.repository.specs.Atoms.{fields-for}
-use Rattle.repository.specs.Refusals.{number, known, refusal}
+use Rattle.repository.specs.Refusals.{name-number, known, refusal}
 
 -- no refusal applies, the name's new atoms stand behind those held, and the scope has the number of each of its atoms
 pub record Accepted (held : Atoms) (name : List ℕ) (s : Scope) (after : Atoms) : Type 0 where
@@ -20,7 +20,7 @@ pub record Accepted (held : Atoms) (name : List ℕ) (s : Scope) (after : Atoms)
 
 -- the first refusal that applies, and the atoms are as they were
 pub record Refused (held : Atoms) (name : List ℕ) (f : NameFault) (after : Atoms) : Type 0 where
-  pub first : refusal held name ≡ Some (number f)
+  pub first : refusal held name ≡ Some (name-number f)
   pub atoms : after ≡ held
 
 abbrev pub Builds : Atoms → List ℕ → Result Scope NameFault → Atoms → Type 0

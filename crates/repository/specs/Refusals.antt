@@ -1,5 +1,5 @@
 -- Each refusal by its number, and when it applies.
-use mathlib.Core.Bool.{Bool, cond, not, _&&_, true}
+use mathlib.Core.Bool.{Bool, cond, not}
 use mathlib.Core.List.{List, [], _∷_, _++_}
 use Prim.Native.Nat.{ℕ}
 use lib.Dec.{ltb}
@@ -13,12 +13,14 @@ use Rattle.repository.specs.declared.faults.WriteFault.the-variants.{UnknownAt
 use Rattle.repository.specs.Names.{Atoms, ascii, cut}
 use Rattle.repository.specs.Atoms.{news, total}
 
-abbrev pub number : NameFault → ℕ
-number NotAscii = 1
-number TooLong = 2
-number TooManyAtoms = 3
-number TooMuchText = 4
+-- the number of each refusal of a name
+abbrev pub name-number : NameFault → ℕ
+name-number NotAscii = 1
+name-number TooLong = 2
+name-number TooManyAtoms = 3
+name-number TooMuchText = 4
 
+-- and of each refusal of a writing
 abbrev pub write-number : WriteFault → ℕ
 write-number UnknownAtom = 6
 write-number ShortOutput = 7

@@ -2,7 +2,7 @@
 ghost use mathlib.Core.Path.{_≡_};
 ghost use mathlib.Core.Bool.{not};
 ghost use mathlib.Core.List.{[]};
-ghost use Prim.Native.Nat.{ℕ, _+_, _-_, _^_, _<_, _≤_, min};
+ghost use Prim.Native.Nat.{_+_, _-_, _^_, _<_, _≤_, min};
 ghost use lib.Dec.{ltb};
 ghost use lib.ListN.{length, getD, take};
 ghost use Rattle.std.specs.Results.{Cases};
@@ -11,7 +11,7 @@ ghost use Rattle.scopes.specs.Scopes.{«atoms-in»};
 ghost use Rattle.repository.specs.Atoms.{has, total, learned, «fields-for»};
 ghost use Rattle.repository.specs.Builds.{Builds};
 ghost use Rattle.repository.specs.Names.{cut, pieces};
-ghost use Rattle.repository.specs.Refusals.{number, refusal};
+ghost use Rattle.repository.specs.Refusals.{«name-number», refusal};
 ghost use Rattle.repository.specs.Tables.{Sound, Front, Grows, «held-by»};
 use crate::faults::NameFault;
 use crate::names::count_dots;
@@ -90,7 +90,7 @@ impl Counts {
     fn admitted(&self, tables: &AtomTables, name: &[u8]) -> Result<usize, NameFault>
         requires sound { ⌜ Sound (now self) (now tables) ⌝ }
         requires some { ⌜ 0 < length (now name) ⌝ }
-        ensures { λ r. ⌜ Cases r (λ n. (refusal («held-by» (now (self .entry)) (now (tables .entry))) (now (name .entry)) ≡ None) × (n ≡ length (cut (now (name .entry))))) (λ f. refusal («held-by» (now (self .entry)) (now (tables .entry))) (now (name .entry)) ≡ Some (number f)) ⌝ }
+        ensures { λ r. ⌜ Cases r (λ n. (refusal («held-by» (now (self .entry)) (now (tables .entry))) (now (name .entry)) ≡ None) × (n ≡ length (cut (now (name .entry))))) (λ f. refusal («held-by» (now (self .entry)) (now (tables .entry))) (now (name .entry)) ≡ Some («name-number» f)) ⌝ }
     {
         if !is_ascii(name) {
             return Err(NameFault::NotAscii);

@@ -1,6 +1,6 @@
 // Why a name or a scope is refused.
 ghost use mathlib.Core.Path.{_≡_};
-ghost use Rattle.repository.specs.Refusals.{number, «write-number»};
+ghost use Rattle.repository.specs.Refusals.{«name-number», «write-number»};
 
 #[derive(Clone, Copy)]
 pub enum NameFault {
@@ -19,7 +19,7 @@ pub enum WriteFault {
 impl NameFault {
     // The refusal's number, as docs/refusals.md lists it.
     pub fn number(self) -> u8
-        ensures { λ r. ⌜ r ≡ number self ⌝ }
+        ensures { λ r. ⌜ r ≡ «name-number» self ⌝ }
     {
         match self {
             NameFault::NotAscii => 1,

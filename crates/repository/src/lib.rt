@@ -1,10 +1,10 @@
 // The repository of atoms: scopes from names, and names from scopes.
-pub mod building;
+mod building;
 pub mod faults;
-pub mod names;
+mod names;
 pub mod scope_repository;
 pub mod tables;
-pub mod writing;
+mod writing;
 
 pub use faults::NameFault;
 pub use faults::WriteFault;

@@ -8,10 +8,10 @@ use native.Mathlib.Omega.{arith}
 use native.Mathlib.Numerals.{add-one}
 use lib.Count.{trailingZeros, under, trailing-le}
 use lib.Dec.{eqb}
-use lib.ListN.{length, take, drop, getD, set}
+use lib.ListN.{length, take, drop, set}
 use Rattle.std.proofs.shelf.Bits.{mod-pow-add}
 use Rattle.std.proofs.shelf.Ways.{tells, decides-at}
-use Rattle.std.proofs.shelf.Tests.{cases-lt, eqb-true, eqb-false, eq-eqb, ne-eqb, and-parts, and-from}
+use Rattle.std.proofs.shelf.Tests.{cases-lt, eqb-true, eq-eqb, ne-eqb, and-parts, and-from}
 use Rattle.std.specs.Orderings.{Decides}
 use Rattle.scopes.specs.Fields.{word-fields, fields, unused, packed, used, starts}
 

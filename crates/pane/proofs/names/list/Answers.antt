@@ -1,11 +1,10 @@
-use mathlib.Core.Path.{_≡_, sym, _∙_}
+use mathlib.Core.Path.{_≡_}
 use Prim.Native.Nat.{_<_}
 use native.Mathlib.Omega.{arith}
 use borrow.Author.Needs.{needs}
 use lib.ListN.{length}
 use Rattle.std.proofs.shelf.Lists.{nil-from-length}
 use Rattle.repository.specs.Held.{atoms-of}
-use Rattle.pane.specs.Listing.{First}
 use Rattle.pane.proofs.Listed.{fewer, more, all, trimmed-short, line-short}
 use Rattle.pane.proofs.names.list.Needs as need
 

@@ -1,6 +1,6 @@
-use mathlib.Core.Path.{_≡_, refl, sym, ap, _∙_}
+use mathlib.Core.Path.{sym, ap, _∙_}
 use native.Mathlib.Omega.{arith}
-use lib.ListN.{length, take}
+use lib.ListN.{take}
 use Rattle.std.proofs.shelf.Equals.{matches-decides}
 use Rattle.std.proofs.shelf.Lists.{at-drop-all, length-take-le}
 use Rattle.repository.specs.Atoms.{has}

@@ -1,10 +1,9 @@
-use mathlib.Core.Path.{_≡_, refl, sym, ap, _∙_}
+use mathlib.Core.Path.{_≡_, sym, ap, _∙_}
 use mathlib.Core.List.{[], _∷_, _++_}
 use Prim.Native.Nat.{_+_, _≤_}
 use native.Mathlib.Omega.{arith}
 use lib.ListN.{length, take, drop}
 use Rattle.std.proofs.shelf.Lists.{append-assoc, length-push, length-take-le}
-use Rattle.repository.specs.Names.{led}
 use Rattle.repository.proofs.Spelling.{put-on, led-some}
 use Rattle.repository.proofs.writing.put_atom.Needs as need
 

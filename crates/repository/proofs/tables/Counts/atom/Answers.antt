@@ -1,4 +1,3 @@
-use native.Mathlib.Omega.{arith}
 use Rattle.repository.proofs.Held.{spans, spells}
 use Rattle.repository.proofs.tables.Counts.atom.Needs as need
 

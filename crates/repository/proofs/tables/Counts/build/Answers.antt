@@ -7,7 +7,7 @@ use lib.ListN.{length}
 use Rattle.std.proofs.shelf.Lists.{nil-from-length}
 use Rattle.std.proofs.shelf.Tests.{eqb-true}
 use Rattle.repository.specs.Atoms.{learned, fields-for, total}
-use Rattle.repository.specs.Names.{cut, ascii, pieces}
+use Rattle.repository.specs.Names.{cut, ascii}
 use Rattle.repository.specs.Tables.{held-by}
 use Rattle.repository.proofs.Held.{front-none, grows-none, held-length, held-total}
 use Rattle.repository.proofs.Places.{learned-news}

@@ -1,10 +1,10 @@
-use mathlib.Core.Path.{_≡_, refl, sym, ap, _∙_}
-use Prim.Native.Nat.{_+_, _≤_}
+use mathlib.Core.Path.{sym, _∙_}
+use Prim.Native.Nat.{_≤_}
 use native.Mathlib.Omega.{arith}
 use lib.ListN.{length, take}
 use Rattle.std.proofs.shelf.Equals.{matches-decides}
 use Rattle.std.proofs.shelf.Lists.{at-drop-all, length-take-le}
-use Rattle.repository.specs.Atoms.{has, place}
+use Rattle.repository.specs.Atoms.{has}
 use Rattle.repository.specs.Tables.{cuts}
 use Rattle.repository.proofs.Held.{turn, end-below, here-has, here-place, past-has, past-place}
 use Rattle.repository.proofs.tables.Counts.find.Needs as need

@@ -1,11 +1,11 @@
 use mathlib.Core.Path.{_≡_, sym, ap, _∙_}
 use mathlib.Core.List.{[], _∷_, _++_}
-use Prim.Native.Nat.{_+_, _≤_, _<_}
+use Prim.Native.Nat.{_+_, _<_}
 use native.Mathlib.Omega.{arith}
 use lib.ListN.{length, take, drop}
 use Rattle.std.proofs.shelf.Lists.{take-all, at-drop-all}
 use Rattle.scopes.specs.Scopes.{atoms-in}
-use Rattle.repository.specs.Atoms.{place, seen, learned, fields-for}
+use Rattle.repository.specs.Atoms.{learned, fields-for}
 use Rattle.repository.specs.Names.{pieces}
 use Rattle.repository.specs.Tables.{held-by}
 use Rattle.repository.proofs.Held.{front-more}
