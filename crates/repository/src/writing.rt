@@ -37,6 +37,13 @@ fn put_atom(output: &mut [u8], at: usize, index: usize, atom: &[u8]) -> usize
     put(output, next, atom)
 }
 
+fn count_of(scope: Scope) -> usize
+    ensures count { λ r. ⌜ r ≡ length («atoms-in» scope) ⌝ }
+    ensures eight { λ r. ⌜ r ≤ 8 ⌝ }
+{
+    scope.len() as usize
+}
+
 impl Counts {
     // How long a scope's name is, or none where the number of an atom was not given out.
     pub(crate) fn name_len(&self, tables: &AtomTables, scope: Scope) -> Option<usize>
@@ -44,7 +51,7 @@ impl Counts {
         ensures { λ r. ⌜ Cases r (given («held-by» (now (self .entry)) (now (tables .entry))) («atoms-in» scope) ≡ false) (λ n. (given («held-by» (now (self .entry)) (now (tables .entry))) («atoms-in» scope) ≡ true) × (n ≡ length (spelling («held-by» (now (self .entry)) (now (tables .entry))) scope))) ⌝ }
     {
         let mut len: usize = 0;
-        for i in 0..scope.len() as usize {
+        for i in 0..count_of(scope) {
             let field = scope.atom_at(i) as usize;
             if field > self.atoms {
                 return None;
@@ -62,8 +69,7 @@ impl Counts {
         ensures { λ _. ⌜ now (output .exit) ≡ spelling («held-by» (now (self .entry)) (now (tables .entry))) scope ++ drop (length (spelling («held-by» (now (self .entry)) (now (tables .entry))) scope)) (now (output .entry)) ⌝ }
     {
         let mut at: usize = 0;
-        let count = scope.len() as usize;
-        for i in 0..count {
+        for i in 0..count_of(scope) {
             let field = scope.atom_at(i) as usize;
             at = put_atom(output, at, i, self.atom(tables, field - 1));
         }

@@ -12,7 +12,7 @@ ghost use Rattle.scopes.specs.Fields.{«word-fields», fields, packed, Gapless
 ghost use Rattle.scopes.specs.Scopes.{«fields-in», «atoms-in», PrefixOf, begins};
 use crate::scope::Scope;
 
-// Whether no used field of a word stands behind an unused one.
+// Whether no used field of a word stands behind an unused one: 65536 is 2^16, a field, and 4294967296 is two.
 fn is_packed(w: u64) -> bool
     ensures { λ r. ⌜ r ≡ packed («word-fields» w) ⌝ }
 {
