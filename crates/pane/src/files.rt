@@ -1,22 +1,28 @@
-// Files that a user names, and the messages where one cannot be read.
+// Files that a user names, and what is said where one cannot be read.
 use std::alloc::AllocError;
-use std::alloc::Refused;
 use std::fs;
 use std::io;
 use std::io::ErrorKind;
 
-// The program ends with status 1. Where the user is to know more, the reason has been printed.
-pub(crate) struct Stopped;
+// Why the program ends with status 1.
+#[derive(Clone, Copy)]
+pub(crate) enum Stopped {
+    // the reason has been printed
+    Told,
+    // what it printed could not be written
+    Output,
+    Memory,
+}
 
 pub(crate) impl From<io::Error> for Stopped as StoppedFromError {
     fn from(_error: io::Error) -> Stopped {
-        Stopped
+        Stopped::Output
     }
 }
 
 pub(crate) impl From<AllocError> for Stopped as StoppedFromAllocError {
     fn from(_error: AllocError) -> Stopped {
-        Stopped
+        Stopped::Memory
     }
 }
 
@@ -35,7 +41,7 @@ pub(crate) fn read(rt: &LibcRuntime, path: &str, expected: &str) -> Result<Vec<u
         Ok(bytes) => {
             if bytes.is_empty() {
                 eprintln!(rt, "pane: {path}: the file is empty, and {expected}")?;
-                return Err(Stopped);
+                return Err(Stopped::Told);
             }
             Ok(bytes)
         }
@@ -44,7 +50,7 @@ pub(crate) fn read(rt: &LibcRuntime, path: &str, expected: &str) -> Result<Vec<u
                 Some(text) => eprintln!(rt, "pane: {path}: {text}")?,
                 None => eprintln!(rt, "pane: {path}: {error}")?,
             }
-            Err(Stopped)
+            Err(Stopped::Told)
         }
     }
 }

@@ -15,7 +15,7 @@ const USAGE: &str = "usage: pane names FILE
 fn misused(rt: &LibcRuntime, what: &str, word: &str) -> Result<(), Stopped> {
     eprintln!(rt, "pane: {what}{word}")?;
     eprintln!(rt, "{USAGE}")?;
-    Err(Stopped)
+    Err(Stopped::Told)
 }
 
 // The command and its file, behind the program's own name.
@@ -37,16 +37,26 @@ fn run(rt: &LibcRuntime, words: &[String]) -> Result<(), Stopped> {
     names::run(rt, words[2].as_str())
 }
 
-fn main(rt: LibcRuntime) -> Result<(), Stopped> {
-    match env::args(&rt) {
+fn start(rt: &LibcRuntime) -> Result<(), Stopped> {
+    match env::args(rt) {
         Ok(words) => {
             let words: Vec<String> = words.collect(rt.alloc())?;
-            run(&rt, words.as_slice())
+            run(rt, words.as_slice())
         }
         Err(_) => misused(
-            &rt,
+            rt,
             "an argument cannot be read: it is no UTF-8 text, or memory is short",
             "",
         ),
     }
+}
+
+fn main(rt: LibcRuntime) -> Result<(), Stopped> {
+    let ended = start(&rt);
+    match ended {
+        Err(Stopped::Output) => eprintln!(rt, "pane: the output cannot be written")?,
+        Err(Stopped::Memory) => eprintln!(rt, "pane: memory is short")?,
+        _ => {}
+    }
+    ended
 }

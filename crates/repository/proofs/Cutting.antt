@@ -130,6 +130,3 @@ trim-end xs n pos le ne h =
     let e : n - 1 + 1 ≡ n = omega arith in
     let s : take n xs ≡ take (n - 1) xs ++ getD xs (n - 1) 0 ∷ [] = ap (λ m. take m xs) (sym e) ∙ take-more xs (n - 1) 0 (omega arith) in
     s ∙ sym (strip-other (take (n - 1) xs) (getD xs (n - 1) 0) ne) ∙ ap stripped (sym s) ∙ h
-
-pub trim-none : (xs : List ℕ) (n : ℕ) → n ≤ 0 → stripped (take n xs) ≡ stripped xs → take n xs ≡ stripped xs
-trim-none xs n z h = let e : n ≡ 0 = omega arith in ap (λ m. take m xs) e ∙ sym (ap (λ m. stripped (take m xs)) e) ∙ h

@@ -83,11 +83,6 @@ start-some : (from : ℕ) (es : List ℕ) (n : ℕ) → (n ≡ 0 → ⊥) → st
 start-some from es zero ne = absurd (ne refl)
 start-some from es (suc n) ne = let e : n ≡ suc n - 1 = omega arith in ap (λ m. getD es m 0) e
 
--- what is below the counts decides what they stand for
-pub front-atoms : (c : Counts) (t u : AtomTables) → Front c t u → Sound c t → held-by c u ≡ held-by c t
-front-atoms c t u f s =
-    ap (λ l. cuts 0 l (u .text)) (f .ends) ∙ cuts-same 0 (take (c .atoms) (t .ends)) (c .bytes) (u .text) (t .text) (s .rising) (f .text)
-
 pub front-none : (c : Counts) (t : AtomTables) → Front c t t
 front-none c t = record { ends = refl; text = refl }
 

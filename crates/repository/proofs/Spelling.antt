@@ -63,7 +63,3 @@ put-on p out now then a n r long e f g =
 pub led-some : (i : ℕ) (a : Atom) → (i ≡ 0 → ⊥) → led i a ≡ 46 ∷ a
 led-some zero a ne = absurd (ne refl)
 led-some (suc i) a ne = refl
-
-pub led-first : (i : ℕ) (a : Atom) → i ≡ 0 → led i a ≡ a
-led-first zero a e = refl
-led-first (suc i) a e = absurd (omega arith)

@@ -1,20 +1,19 @@
 -- The text of the atom in each field of a scope.
 use mathlib.Core.Path.{_≡_, sym, ap, _∙_}
-use mathlib.Core.Bool.{true, false, not, _&&_}
+use mathlib.Core.Bool.{true, false, _&&_}
 use mathlib.Core.List.{List, [], _∷_}
 use Prim.Native.Nat.{ℕ, zero, suc, _+_, _-_, _≤_, _<_}
 use native.Mathlib.Omega.{arith}
-use lib.Dec.{leb, ltb}
+use lib.Dec.{leb}
 use lib.ListN.{length, drop, getD}
 use Rattle.std.proofs.shelf.Lists.{at-drop-more, getD-map, length-map}
-use Rattle.std.proofs.shelf.Tests.{and-parts, and-left, cond-false, not-from-true, leb-true, le-leb, lt-leb, le-ltb}
-use Rattle.std.specs.declared.option.Option.the-variants.{Some, None}
+use Rattle.std.proofs.shelf.Tests.{and-parts, and-left, leb-true, le-leb, lt-leb}
 use Rattle.scopes.specs.declared.scope.Scope.{Scope}
 use Rattle.scopes.specs.Scopes.{fields-in, atoms-in}
 use Rattle.scopes.proofs.Used.{field-at}
 use Rattle.repository.specs.Names.{Atoms}
 use Rattle.repository.specs.Atoms.{total}
-use Rattle.repository.specs.Writes.{given, texts, spelling, write-refusal}
+use Rattle.repository.specs.Writes.{given, texts}
 
 pub total-at : (xs : Atoms) (n : ℕ) → length (getD xs n []) ≤ total xs
 total-at [] n = omega arith
@@ -51,8 +50,3 @@ module _ (held : Atoms) (s : Scope) (i f : ℕ) (lt : i < length (atoms-in s)) (
 
   pub known-all : given held (atoms-in s) ≡ true → f ≤ length held
   known-all g = omega (arith, given-at held (atoms-in s) i lt g, field)
-
--- a scope whose numbers were given out is written where there is room
-pub unrefused-write : (held : Atoms) (s : Scope) (room : ℕ) → given held (atoms-in s) ≡ true → length (spelling held s) ≤ room → write-refusal held s room ≡ None
-unrefused-write held s room g le =
-    cond-false (not (given held (atoms-in s))) (Some 6) _ (not-from-true (given held (atoms-in s)) g) ∙ cond-false (ltb room (length (spelling held s))) (Some 7) None (le-ltb room (length (spelling held s)) le)

@@ -39,9 +39,9 @@ abbrev pub refusal : Atoms → List ℕ → Option ℕ
 refusal held name =
     first
     (
-    (1, not (ascii name))
-    ∷ (2, ltb 8 (length (cut name)))
-    ∷ (3, ltb 4096 (length (known held name)))
-    ∷ (4, ltb 65536 (total (known held name)))
+    (name-number NotAscii, not (ascii name))
+    ∷ (name-number TooLong, ltb 8 (length (cut name)))
+    ∷ (name-number TooManyAtoms, ltb 4096 (length (known held name)))
+    ∷ (name-number TooMuchText, ltb 65536 (total (known held name)))
     ∷ []
     )

@@ -36,11 +36,12 @@ pub record Sound (c : Counts) (t : AtomTables) : Type 0 where
   pub places : length (t .ends) ≡ 4096
   pub room : length (t .text) ≡ 65536
 
--- below the counts c the tables u hold what t held
+-- for whoever takes counts back: below the counts c the tables u hold what t held
 pub record Front (c : Counts) (t u : AtomTables) : Type 0 where
   pub ends : take (c .atoms) (u .ends) ≡ take (c .atoms) (t .ends)
   pub text : take (c .bytes) (u .text) ≡ take (c .bytes) (t .text)
 
+-- d counts no less than c
 pub record Grows (c d : Counts) : Type 0 where
   pub atoms : c .atoms ≤ d .atoms
   pub bytes : c .bytes ≤ d .bytes

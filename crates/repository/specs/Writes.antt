@@ -12,6 +12,7 @@ use Rattle.std.specs.declared.result.Result.the-variants.{Ok, Err}
 use Rattle.scopes.specs.declared.scope.Scope.{Scope}
 use Rattle.scopes.specs.Scopes.{atoms-in}
 use Rattle.repository.specs.declared.faults.WriteFault.{WriteFault}
+use Rattle.repository.specs.declared.faults.WriteFault.the-variants.{UnknownAtom, ShortOutput}
 use Rattle.repository.specs.Names.{Atoms, dotted}
 use Rattle.repository.specs.Refusals.{first, write-number}
 
@@ -30,7 +31,7 @@ spelling held s = dotted (texts held (atoms-in s))
 
 -- the refusal of a writing to an output of some length, if any
 abbrev pub write-refusal : Atoms → Scope → ℕ → Option ℕ
-write-refusal held s room = first ((6, not (given held (atoms-in s))) ∷ (7, ltb room (length (spelling held s))) ∷ [])
+write-refusal held s room = first ((write-number UnknownAtom, not (given held (atoms-in s))) ∷ (write-number ShortOutput, ltb room (length (spelling held s))) ∷ [])
 
 -- no refusal applies, the name stands at the output's beginning, and behind it the output is as it was
 pub record Written (held : Atoms) (s : Scope) (before : List ℕ) (count : ℕ) (after : List ℕ) : Type 0 where

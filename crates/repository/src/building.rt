@@ -23,7 +23,13 @@ use crate::tables::AtomTables;
 use crate::tables::Counts;
 use scopes::Scope;
 
-// Whether a count passes its limit.
+// What a name and the repository may hold; eight atoms have seven dots between them.
+const MOST_DOTS: usize = 7;
+
+const MOST_ATOMS: usize = 4096;
+
+const MOST_BYTES: usize = 65536;
+
 fn exceeds(count: usize, limit: usize) -> bool
     ensures { λ r. ⌜ r ≡ ltb limit count ⌝ }
 {
@@ -86,7 +92,7 @@ impl Counts {
         scope
     }
 
-    // How many atoms a name has, which is not empty, or the first refusal that applies to it.
+    // Of a name that is not empty: how many atoms it has, or the first refusal that applies. Nothing is changed here.
     fn admitted(&self, tables: &AtomTables, name: &[u8]) -> Result<usize, NameFault>
         requires sound { ⌜ Sound (now self) (now tables) ⌝ }
         requires some { ⌜ 0 < length (now name) ⌝ }
@@ -97,14 +103,14 @@ impl Counts {
         }
         let text = without_end_dots(name);
         let dots = count_dots(text);
-        if exceeds(dots, 7) {
+        if exceeds(dots, MOST_DOTS) {
             return Err(NameFault::TooLong);
         }
         let wanted = self.planned(tables, text, dots + 1);
-        if exceeds(wanted.atoms, 4096) {
+        if exceeds(wanted.atoms, MOST_ATOMS) {
             return Err(NameFault::TooManyAtoms);
         }
-        if exceeds(wanted.bytes, 65536) {
+        if exceeds(wanted.bytes, MOST_BYTES) {
             return Err(NameFault::TooMuchText);
         }
         Ok(dots + 1)

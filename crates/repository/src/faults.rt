@@ -4,15 +4,21 @@ ghost use Rattle.repository.specs.Refusals.{«name-number», «write-number»}
 
 #[derive(Clone, Copy)]
 pub enum NameFault {
+    // a byte of 128 or more stands in the name
     NotAscii,
+    // it has more than eight atoms
     TooLong,
+    // the atoms held and its new ones exceed 4,096
     TooManyAtoms,
+    // their text exceeds 65,536 bytes
     TooMuchText,
 }
 
 #[derive(Clone, Copy)]
 pub enum WriteFault {
+    // the number of an atom was not given out
     UnknownAtom,
+    // the output is shorter than the name
     ShortOutput,
 }
 
@@ -31,6 +37,7 @@ impl NameFault {
 }
 
 impl WriteFault {
+    // The refusal's number, as docs/refusals.md lists it.
     pub fn number(self) -> u8
         ensures { λ r. ⌜ r ≡ «write-number» self ⌝ }
     {

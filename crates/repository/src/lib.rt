@@ -3,7 +3,7 @@ mod building;
 pub mod faults;
 mod names;
 pub mod scope_repository;
-pub mod tables;
+mod tables;
 mod writing;
 
 pub use faults::NameFault;

@@ -12,8 +12,8 @@ pub mod calls;
 // The atoms given out so far: the counts, and the tables that they fit.
 #[derive(Drop)]
 pub struct ScopeRepository {
-    pub counts: Counts,
-    pub tables: AtomTables,
+    pub(crate) counts: Counts,
+    pub(crate) tables: AtomTables,
     ghost few: { counts .atoms ≤ 4096 },
     ghost short: { counts .bytes ≤ 65536 },
     ghost rising: { rises 0 (take (counts .atoms) (tables .ends)) (counts .bytes) ≡ true },

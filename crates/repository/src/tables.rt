@@ -10,15 +10,15 @@ ghost use Rattle.repository.specs.Atoms.{has, place, total, seen};
 ghost use Rattle.repository.specs.Tables.{Sound, Front, Grows, «held-by»};
 
 #[derive(Clone, Copy)]
-pub struct Counts {
-    pub atoms: usize,
-    pub bytes: usize,
+pub(crate) struct Counts {
+    pub(crate) atoms: usize,
+    pub(crate) bytes: usize,
 }
 
 #[derive(Drop)]
-pub struct AtomTables {
-    pub text: [u8; 65536],
-    pub ends: [u32; 4096],
+pub(crate) struct AtomTables {
+    pub(crate) text: [u8; 65536],
+    pub(crate) ends: [u32; 4096],
 }
 
 // Where an atom's text begins: where that of the atom before it ends.

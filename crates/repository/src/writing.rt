@@ -56,6 +56,7 @@ impl Counts {
             if field > self.atoms {
                 return None;
             }
+            // a dot stands before each atom but the first
             len += i.min(1) + self.atom(tables, field - 1).len();
         }
         Some(len)

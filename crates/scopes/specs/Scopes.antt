@@ -1,4 +1,4 @@
--- What a scope is to its users: a list of atoms, by number. The words stay shut outside this crate's proofs.
+-- What a scope is to its users: a list of atoms, each by its number plus one. The words stay shut outside this crate's proofs.
 use Prim.Native.Nat.{ℕ}
 use mathlib.Core.Bool.{Bool}
 use mathlib.Core.List.{List, _++_}

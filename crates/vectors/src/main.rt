@@ -1,11 +1,15 @@
-// Replays what the reference answered, recorded in data/, and prints how much of it these crates answer alike.
+// Replays what the reference answered, recorded in data/, and prints how much of it these crates answer alike. The same
+// names are then tried against rules that the reference has no call for.
 mod names;
 mod prefixes;
+mod rules;
 
 use crate::names::Names;
 use crate::names::NamesRecord;
 use crate::prefixes::Prefixes;
 use crate::prefixes::PrefixesRecord;
+use crate::rules::Rules;
+use crate::rules::RulesRecord;
 use lines::split;
 use repository::ScopeRepository;
 use std::fs;
@@ -43,10 +47,10 @@ fn replay<R: Record>(text: &[u8]) -> Tally {
     tally
 }
 
-fn print(rt: &LibcRuntime, what: &str, tally: Tally) -> io::Result<()> {
+fn print(rt: &LibcRuntime, what: &str, with: &str, tally: Tally) -> io::Result<()> {
     println!(
         rt,
-        "{what}: {} of {} agree with the reference",
+        "{what}: {} of {} agree with {with}",
         tally.agree, tally.records
     )?;
     if tally.agree < tally.records {
@@ -57,7 +61,18 @@ fn print(rt: &LibcRuntime, what: &str, tally: Tally) -> io::Result<()> {
 
 fn main(rt: LibcRuntime) -> io::Result<()> {
     let text = fs::read(&rt, "names.txt")?;
-    print(&rt, "names", replay::<Names>(text.as_slice()))?;
+    print(
+        &rt,
+        "names",
+        "the reference",
+        replay::<Names>(text.as_slice()),
+    )?;
+    print(&rt, "names", "the rules", replay::<Rules>(text.as_slice()))?;
     let text = fs::read(&rt, "prefixes.txt")?;
-    print(&rt, "prefixes", replay::<Prefixes>(text.as_slice()))
+    print(
+        &rt,
+        "prefixes",
+        "the reference",
+        replay::<Prefixes>(text.as_slice()),
+    )
 }

@@ -18,6 +18,7 @@ use crate::tables::Counts;
 use scopes::Scope;
 
 impl ScopeRepository {
+    // A repository that holds no atom.
     pub fn new() -> ScopeRepository
         ensures { λ r. ⌜ «atoms-of» r ≡ [] ⌝ }
     {

@@ -12,18 +12,18 @@ ghost use Rattle.scopes.specs.Fields.{«word-fields», fields, packed, Gapless
 ghost use Rattle.scopes.specs.Scopes.{«fields-in», «atoms-in», PrefixOf, begins};
 use crate::scope::Scope;
 
-// Whether no used field of a word stands behind an unused one: 65536 is 2^16, a field, and 4294967296 is two.
+// Whether no used field of a word stands behind an unused one.
 fn is_packed(w: u64) -> bool
     ensures { λ r. ⌜ r ≡ packed («word-fields» w) ⌝ }
 {
     if w >> 48 == 0 {
         return w == 0;
     }
-    if (w >> 32) % 65536 == 0 {
-        return w % 4294967296 == 0;
+    if (w >> 32) % 0x1_0000 == 0 {
+        return w % 0x1_0000_0000 == 0;
     }
-    if (w >> 16) % 65536 == 0 {
-        return w % 65536 == 0;
+    if (w >> 16) % 0x1_0000 == 0 {
+        return w % 0x1_0000 == 0;
     }
     true
 }
@@ -75,12 +75,14 @@ impl Scope {
         }
     }
 
+    // The two words, first and second.
     pub fn words(self) -> (u64, u64)
         ensures { λ r. ⌜ r ≡ (self .a, self .b) ⌝ }
     {
         (self.a, self.b)
     }
 
+    // Whether there are no atoms.
     pub fn is_empty(self) -> bool
         ensures { λ r. ⌜ r ≡ eqb (length («atoms-in» self)) 0 ⌝ }
     {
