@@ -2,3 +2,5 @@
 pub mod scope;
 
 pub use scope::Scope;
+pub use scope::calls::ScopeEq;
+pub use scope::calls::ScopePartialEq;

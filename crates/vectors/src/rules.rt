@@ -5,7 +5,7 @@ use repository::NameFault;
 use repository::ScopeRepository;
 use repository::WriteFault;
 use scopes::Scope;
-use scopes::scope::calls::ScopePartialEq;
+use scopes::ScopePartialEq;
 
 pub(crate) struct Rules;
 
