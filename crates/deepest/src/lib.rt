@@ -1,5 +1,7 @@
 // The ranking by the deepest scope: of two layings, the one whose deepest scope lies deeper ranks higher; at the same place, the one
 // that matches more of it; else the two without that scope, in turn.
+#![tactic(auto)]
+
 ghost use Rattle.std.specs.Prelude.{◌≡◌, ℕ, ◌+◌, ◌*◌, ◌^◌, ◌<◌, ◌≤◌, length, take, nat_le, slice_index_or};
 ghost use Rattle.scopes.specs.Scopes.{atoms_in, begins};
 ghost use Rattle.rankings.specs.Layings.{blank};

@@ -1,6 +1,8 @@
 // The ranking by the earliest laying: each of a path's scopes in turn takes the lowest position that it can. A rank is the
 // bits of a double: the sum, lowest position first, of atoms * 2 ^ (3 * position), each addition rounded to nearest, ties to
 // even.
+#![tactic(auto)]
+
 ghost use Rattle.std.specs.Prelude.{◌≡◌, ◌+◌, ◌*◌, ◌^◌, ◌<◌, ◌≤◌, false, leb, length, take, pos, nat_le, slice_index_or};
 ghost use Rattle.std.specs.Float.{fin, binary64};
 ghost use Rattle.std.specs.Float.Ieee.{add};

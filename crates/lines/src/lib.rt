@@ -1,4 +1,6 @@
 // Text as bytes: cut at a byte, as into lines and fields, and freed of white space at its ends.
+#![tactic(auto)]
+
 ghost use Rattle.std.specs.Prelude.{◌≡◌, ℕ, ◌-◌, ◌<◌, ◌≤◌, true, false, length, slice_index};
 ghost use Rattle.lines.specs.Lines.{white, Splits, Trimmed};
 

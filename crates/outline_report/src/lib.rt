@@ -1,4 +1,6 @@
 // `pane outline FILE`: plays a script, and prints after each line where each scope on the stack began.
+#![tactic(auto)]
+
 mod print;
 mod words;
 

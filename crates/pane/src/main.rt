@@ -1,4 +1,6 @@
 // The formula pane as a program: `pane COMMAND FILE`.
+#![tactic(auto)]
+
 mod files;
 mod names;
 

@@ -1,4 +1,6 @@
 // A pane script as it is played: the stack and the outline behind each of its lines.
+#![tactic(auto)]
+
 pub mod flaws;
 pub mod play;
 pub mod refusals;

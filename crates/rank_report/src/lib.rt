@@ -1,4 +1,6 @@
 // `pane rank FILE`: lays paths on stacks, and prints the rank of each under both rankings.
+#![tactic(auto)]
+
 mod decimal;
 mod print;
 

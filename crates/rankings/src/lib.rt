@@ -1,4 +1,6 @@
 // Rankings: which laying of a path on a stack ranks above which.
+#![tactic(auto)]
+
 ghost use Rattle.std.specs.Prelude.{◌≡◌, ℕ, ◌<◌, ◌≤◌, Bool, true, false, List, [], ◌∷◌, length, take, Some, Option};
 ghost use Rattle.scopes.specs.declared.scope.Scope.{Scope};
 ghost use Rattle.rankings.specs.Layings.{atoms, FitsAt};

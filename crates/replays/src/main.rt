@@ -1,5 +1,7 @@
 // Replays what the reference tells a hook and how it scores, recorded in data/, and prints how much of it these crates
 // answer alike.
+#![tactic(auto)]
+
 mod mirror;
 mod names;
 mod scores;

@@ -1,4 +1,6 @@
 // What every report of the program needs: the file that a user names, and words that fit a count.
+#![tactic(auto)]
+
 ghost use Rattle.std.specs.Prelude.{◌≡◌, if◌then◌else◌, nat_eq};
 
 pub mod files;

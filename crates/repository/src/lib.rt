@@ -1,4 +1,6 @@
 // The repository of atoms: scopes from names, and names from scopes.
+#![tactic(auto)]
+
 mod building;
 pub mod faults;
 mod names;

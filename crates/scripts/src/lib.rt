@@ -9,6 +9,8 @@
 //
 // TEXT is all that stands behind the one blank behind `line`. POSITION and COUNT are decimal, below 2^64. The lines of
 // a theme are known here by their first word only.
+#![tactic(auto)]
+
 pub mod directives;
 mod keywords;
 mod numbers;

@@ -1,4 +1,6 @@
 // The scope stack, its operations, and what follows it.
+#![tactic(auto)]
+
 mod apply;
 pub mod faults;
 pub mod hook;

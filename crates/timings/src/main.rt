@@ -1,5 +1,7 @@
 // How long `path` takes on stacks of 64 scopes, for each ranking. It prints to standard error, since that varies from run to
 // run, and asserts nothing.
+#![tactic(auto)]
+
 use deepest::Deepest;
 use earliest::Earliest;
 use rankings::Ranking;

@@ -1,5 +1,7 @@
 // Replays what the reference answered, recorded in data/, and prints how much of it these crates answer alike. The same
 // names are then tried against rules that the reference has no call for.
+#![tactic(auto)]
+
 mod names;
 mod prefixes;
 mod rules;

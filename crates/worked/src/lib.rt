@@ -1,4 +1,6 @@
 // Worked lines: examples that a person can follow by hand, proved of the definitions that the contracts cite.
+#![tactic(auto)]
+
 ghost use Rattle.std.specs.Prelude.{◌≡◌};
 ghost use Rattle.worked.specs.Table.{Table};
 
