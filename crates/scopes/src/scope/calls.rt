@@ -1,12 +1,11 @@
 // What can be asked of a scope. Lengths and prefixes go by whole words, with no loop over fields.
 ghost use Rattle.std.specs.Prelude.{◌≡◌, ◌+◌, ◌-◌, ◌*◌, ◌/◌, ◌^◌, ◌<◌, ◌≤◌, true, [], ◌∷◌, ◌++◌, length, is_some, IfSome, Decides, MatchOption, ◌==◌, nat_eq, slice_index};
 ghost use Rattle.std.specs.Int.Count.{count_trailing_zeros};
-ghost use Rattle.std.specs.Ordering.{on, eq_of_both};
+ghost use Rattle.std.specs.Ordering.{on};
 ghost use Rattle.scopes.specs.Fields.{word_fields, fields, packed, Gapless};
 ghost use Rattle.scopes.specs.Scopes.{fields_in, atoms_in, PrefixOf, begins};
-ghost use Rattle.std.specs.Cmp.Rules.{comparing};
-ghost use Rattle.std.proofs.Common.{rules, arith};
-ghost use Rattle.std.specs.Cmp as Keys;
+ghost use Rattle.std.specs.Cmp.{partial_equiv_from_equiv, on_equiv, nat_eq_equiv};
+ghost use Rattle.std.specs.Cmp.Lexicographic.{pointwise, lists_equiv};
 
 use crate::scope::Scope;
 
@@ -154,15 +153,18 @@ impl Scope {
 
 // Two scopes are equal exactly if they have the same atoms in the same order.
 impl PartialEq for Scope {
-    ghost eq = { eq_of_both (on (λ v. v.a) nat_eq) (on (λ v. v.b) nat_eq) };
+    ghost eq = { on atoms_in (pointwise nat_eq) };
 
-    ghost laws = { Keys.partial_equiv_from_equiv (first_of (Prim.search (comparing, rules), Prim.grind (arith, Self.row.coded.inj))) };
+    ghost laws = { partial_equiv_from_equiv (on_equiv atoms_in (lists_equiv nat_eq_equiv)) };
 
-    fn eq(&self, other: &Scope) -> bool {
+    fn eq(&self, other: &Scope) -> bool
+        ensures value { result ≡ on atoms_in (pointwise nat_eq) self.now other.now }
+        ensures equals { Decides result (atoms_in self.now ≡ atoms_in other.now) }
+    {
         self.a == other.a && self.b == other.b
     }
 }
 
 impl Eq for Scope {
-    ghost laws = { first_of (Prim.search (comparing, rules), Prim.grind (arith, Self.row.coded.inj)) };
+    ghost laws = { on_equiv atoms_in (lists_equiv nat_eq_equiv) };
 }

@@ -4,14 +4,14 @@ use Rattle.scopes.specs.Fields.{fields}
 use Rattle.scopes.proofs.Gaps.{packed_decides}
 use Rattle.scopes.proofs.scope.Scope.from_words.Goals as goal
 
-pub returns-then-are-packed : goal.returns-then-are-packed
-returns-then-are-packed c = record {
-  gapless = Decides-at _ _ (sym c.if-are-packed.true ∙ c.are-packed.ensures) (packed_decides (fields c.args.a c.args.b));
+pub returns-then-are_packed : goal.returns-then-are_packed
+returns-then-are_packed c = record {
+  gapless = Decides-at _ _ (sym c.if-are_packed.true ∙ c.are_packed.ensures) (packed_decides (fields c.args.a c.args.b));
   words = search rules;
 }
 
-pub returns-else-are-packed : goal.returns-else-are-packed
-returns-else-are-packed c = record {
-  gapless = Decides-at _ _ (sym c.if-are-packed.false ∙ c.are-packed.ensures) (packed_decides (fields c.args.a c.args.b));
+pub returns-else-are_packed : goal.returns-else-are_packed
+returns-else-are_packed c = record {
+  gapless = Decides-at _ _ (sym c.if-are_packed.false ∙ c.are_packed.ensures) (packed_decides (fields c.args.a c.args.b));
   words = tt;
 }

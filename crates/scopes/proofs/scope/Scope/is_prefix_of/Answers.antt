@@ -10,23 +10,23 @@ first t z e = simp e
 second : (t z : Bool) → t ≡ false → t ≡ (t && z)
 second t z e = simp e
 
-pub returns-then-are-same : goal.returns-then-are-same
+pub returns-then-are_same : goal.returns-then-are_same
 unfolding atoms_in fields_in
-returns-then-are-same c =
-    let told = c.same-above.ensures ∙ ap (λ n. eqb (c.args.self.b / 2 ^ n) (c.args.other.b / 2 ^ n)) c.unused-bits.ensures in
-    let e = told ∙ first _ _ (sym c.are-same.ensures ∙ c.if-are-same.true) ∙ sym (starts_some c.args.self.a c.args.self.b (omega arith) (omega arith) c.args.self.used_first c.args.other.a c.args.other.b (omega arith) (omega arith) c.if-self-ne0.true) in
+returns-then-are_same c =
+    let told = c.same_above.ensures ∙ ap (λ n. eqb (c.args.self.b / 2 ^ n) (c.args.other.b / 2 ^ n)) c.unused_bits.ensures in
+    let e = told ∙ first _ _ (sym c.are_same.ensures ∙ c.if-are_same.true) ∙ sym (starts_some c.args.self.a c.args.self.b (omega arith) (omega arith) c.args.self.used_first c.args.other.a c.args.other.b (omega arith) (omega arith) c.if-self-ne0.true) in
     record { decides = prefix_by _ (used (fields c.args.self.a c.args.self.b)) _ e; test = e }
 
-pub returns-else-are-same : goal.returns-else-are-same
+pub returns-else-are_same : goal.returns-else-are_same
 unfolding atoms_in fields_in
-returns-else-are-same c =
-    let e = c.are-same.ensures ∙ second _ _ (sym c.are-same.ensures ∙ c.if-are-same.false) ∙ sym (starts_some c.args.self.a c.args.self.b (omega arith) (omega arith) c.args.self.used_first c.args.other.a c.args.other.b (omega arith) (omega arith) c.if-self-ne0.true) in
+returns-else-are_same c =
+    let e = c.are_same.ensures ∙ second _ _ (sym c.are_same.ensures ∙ c.if-are_same.false) ∙ sym (starts_some c.args.self.a c.args.self.b (omega arith) (omega arith) c.args.self.used_first c.args.other.a c.args.other.b (omega arith) (omega arith) c.if-self-ne0.true) in
     record { decides = prefix_by _ (used (fields c.args.self.a c.args.self.b)) _ e; test = e }
 
 pub returns-then-self-ne0-2 : goal.returns-then-self-ne0-2
 unfolding atoms_in fields_in
 returns-then-self-ne0-2 c =
-    let told = c.same-above-then-self-ne0-2.ensures ∙ ap (λ n. eqb (c.args.self.a / 2 ^ n) (c.args.other.a / 2 ^ n)) c.unused-bits-then-self-ne0-2.ensures in
+    let told = c.same_above-then-self-ne0-2.ensures ∙ ap (λ n. eqb (c.args.self.a / 2 ^ n) (c.args.other.a / 2 ^ n)) c.unused_bits-then-self-ne0-2.ensures in
     let e = told ∙ sym (starts_none c.args.self.a c.args.self.b (omega arith) (omega arith) c.args.self.used_first c.args.other.a c.args.other.b (omega arith) (omega arith) c.if-self-ne0.false c.if-self-ne0-2.true) in
     record { decides = prefix_by _ (used (fields c.args.self.a c.args.self.b)) _ e; test = e }
 
