@@ -1,7 +1,7 @@
 -- What a ranking promises of its ranks.
 use Rattle.std.specs.Prelude.{◌≡◌, ℕ, ◌<◌, ◌≤◌, min, max, ◌⊎◌, List, [], length, Some, None, Option, ◌≢◌}
 use Rattle.scopes.specs.declared.scope.Scope.{Scope}
-use Rattle.rankings.specs.Layings.{atoms, Layable}
+use Rattle.rankings.specs.Layings.{Layable}
 
 -- the nearest of 1 to 8 atoms, and of the positions 0 to 63
 abbrev pub near_atoms : ℕ → ℕ
