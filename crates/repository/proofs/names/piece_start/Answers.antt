@@ -5,9 +5,9 @@ use Rattle.repository.proofs.names.piece_start.Goals as goal
 
 pub loop-preserved : goal.loop-preserved
 loop-preserved c =
-    let cut = c.piece-end-start.ensures.cut in (
-      omega (arith, not_last c.args.text.now c.loop.start c.piece-end-start.result c.loop.counter cut c.loop.invariant.1 (omega arith)),
-      next c.args.text.now c.loop.start c.piece-end-start.result c.loop.counter cut c.loop.invariant.1 (omega arith),
+    let cut = c.piece_end-start.ensures.cut in (
+      omega (arith, not_last c.args.text.now c.loop.start c.piece_end-start.result c.loop.counter cut c.loop.invariant.1 (omega arith)),
+      next c.args.text.now c.loop.start c.piece_end-start.result c.loop.counter cut c.loop.invariant.1 (omega arith),
     )
 
 pub returns : goal.returns

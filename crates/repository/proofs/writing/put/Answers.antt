@@ -12,5 +12,5 @@ returns c =
     let past : at + size ≡ at + length bytes = omega arith in
     record {
       end = refl;
-      after = ap (put_mid at size before) c.copy-from-slice.ensures.after ∙ ap (λ l. take at before ++ (bytes ++ l)) (drop-drop size at before ∙ ap (λ n. drop n before) past);
+      after = ap (put_mid at size before) c.copy_from_slice.ensures.after ∙ ap (λ l. take at before ++ (bytes ++ l)) (drop-drop size at before ∙ ap (λ n. drop n before) past);
     }

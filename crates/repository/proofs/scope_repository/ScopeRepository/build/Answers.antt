@@ -8,8 +8,8 @@ use Rattle.repository.proofs.scope_repository.ScopeRepository.build.Goals as goa
 pub build-requires : goal.build-requires
 build-requires c = sound_in c.args.self.now
 
-pub invariant-of-self : goal.invariant-of-self
-invariant-of-self c = let s = c.build.ensures.sound in (s.few, (s.short, (rises_in c.build.new.self c.build.new.tables s, (s.places, (s.room, tt)))))
+pub invariant_of-self : goal.invariant_of-self
+invariant_of-self c = let s = c.build.ensures.sound in record { few = s.few; short = s.short; rising = rises_in c.build.new.self c.build.new.tables s; places = s.places; room = s.room }
 
 pub returns : goal.returns
 returns c =

@@ -13,7 +13,7 @@ returns c =
     let end = counts.bytes + length atom in
     let room : counts.bytes + length atom ≤ length tables.text = omega arith in
     let place : counts.atoms < length tables.ends = omega arith in
-    let copied = sym c.copy-from-slice.ensures.after in
+    let copied = sym c.copy_from_slice.ensures.after in
     record {
       sound = record { few = omega arith; short = omega arith; rising = rises_on counts tables c.requires.sound atom room place; places = search rules; room = search rules };
       front = subst (λ a. Front counts tables (record { text = put_mid counts.bytes (end - counts.bytes) tables.text a; ends = set tables.ends counts.atoms end })) copied (still counts tables c.requires.sound atom room place);

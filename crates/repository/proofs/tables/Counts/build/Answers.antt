@@ -9,10 +9,10 @@ use Rattle.repository.proofs.Places.{learned_news}
 use Rattle.repository.proofs.Builds.{cut_is, accepted, was_eight, was_few, was_short, made}
 use Rattle.repository.proofs.tables.Counts.build.Goals as goal
 
-pub returns-then-is-empty : goal.returns-then-is-empty
-returns-then-is-empty c =
+pub returns-then-is_empty : goal.returns-then-is_empty
+returns-then-is_empty c =
     let held = held_by c.args.self.now c.args.tables.now in
-    let none : c.args.name.now ≡ [] = nil_from_length c.args.name.now (eqb-true _ 0 (sym c.is-empty.ensures ∙ c.if-is-empty.true)) in
+    let none : c.args.name.now ≡ [] = nil_from_length c.args.name.now (eqb-true _ 0 (sym c.is_empty.ensures ∙ c.if-is_empty.true)) in
     let nothing : cut c.args.name.now ≡ [] = ap cut none in
     record {
       sound = c.requires;
@@ -21,13 +21,13 @@ returns-then-is-empty c =
       builds = accepted held c.args.name.now (ap ascii none) (omega (arith, ap length nothing)) held (sym (ap (learned held) nothing)) (omega (arith, held_length c.args.self.now c.args.tables.now c.requires, c.requires.few)) (omega (arith, held_total c.args.self.now c.args.tables.now c.requires, c.requires.short)) c.empty.result (c.empty.ensures ∙ sym (ap (fields_for held) nothing)) held refl;
     }
 
-pub scope-of-requires : goal.scope-of-requires
-scope-of-requires c =
+pub scope_of-requires : goal.scope_of-requires
+scope_of-requires c =
     let held = held_by c.args.self.now c.args.tables.now in
     let name = c.args.name.now in
     let told = c.in-Ok.ensures in
     let some : 0 < length name = search rules in
-    let cuts = cut_is name c.without-end-dots.result.now some c.without-end-dots.ensures in
+    let cuts = cut_is name c.without_end_dots.result.now some c.without_end_dots.ensures in
     let all = sym (learned_news held (cut name)) ∙ ap (learned held) cuts in
     record {
       sound = c.requires;
@@ -42,11 +42,11 @@ returns-in-Ok c =
     let held = held_by c.args.self.now c.args.tables.now in
     let name = c.args.name.now in
     let some : 0 < length name = search rules in
-    let cuts = cut_is name c.without-end-dots.result.now some c.without-end-dots.ensures in
-    let told = c.scope-of.ensures in
+    let cuts = cut_is name c.without_end_dots.result.now some c.without_end_dots.ensures in
+    let told = c.scope_of.ensures in
     record {
       sound = told.sound;
       front = told.front;
       grows = told.grows;
-      builds = made held name c.in-Ok.ensures.0 c.without-end-dots.result.now cuts c.scope-of.result (held_by c.scope-of.new.self c.scope-of.new.tables) told.held told.fields;
+      builds = made held name c.in-Ok.ensures.0 c.without_end_dots.result.now cuts c.scope_of.result (held_by c.scope_of.new.self c.scope_of.new.tables) told.held told.fields;
     }

@@ -7,16 +7,16 @@ use Rattle.repository.proofs.Held.{turn, end_below, here_has, here_place, past_h
 use Rattle.repository.proofs.tables.Counts.find.Goals as goal
 use Rattle.std.proofs.lemmas.Bool.Decides.{Decides-eqb}
 
-pub slice-bounds-eq-count : goal.slice-bounds-eq-count
-slice-bounds-eq-count c =
+pub slice_bounds-eq-count : goal.slice_bounds-eq-count
+slice_bounds-eq-count c =
     (turn c.loop-i.start c.args.tables.now.ends c.args.tables.now.text c.loop-i.i c.args.self.now.atoms c.args.self.now.bytes c.loop-i-test.true (omega arith) c.loop-i.invariant.0).0
 
-pub slice-bounds-eq-start : goal.slice-bounds-eq-start
-slice-bounds-eq-start c =
+pub slice_bounds-eq-start : goal.slice_bounds-eq-start
+slice_bounds-eq-start c =
     (turn c.loop-i.start c.args.tables.now.ends c.args.tables.now.text c.loop-i.i c.args.self.now.atoms c.args.self.now.bytes c.loop-i-test.true (omega arith) c.loop-i.invariant.0).0
 
-pub slice-bounds-eq-end : goal.slice-bounds-eq-end
-slice-bounds-eq-end c =
+pub slice_bounds-eq-end : goal.slice_bounds-eq-end
+slice_bounds-eq-end c =
     omega (arith, end_below c.loop-i.start c.args.tables.now.ends c.args.tables.now.text c.loop-i.i c.args.self.now.atoms c.args.self.now.bytes c.loop-i-test.true (omega arith) c.loop-i.invariant.0)
 
 pub returns-then-eq : goal.returns-then-eq

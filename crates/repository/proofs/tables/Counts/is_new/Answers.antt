@@ -13,4 +13,4 @@ returns-in-Some c =
 pub returns-in-None : goal.returns-in-None
 returns-in-None c =
     let held = held_by c.args.self.now c.args.tables.now in
-    ap not c.is-repeated.ensures ∙ sym (new_by held (take c.args.index (pieces c.args.text.now)) (get_or (pieces c.args.text.now) c.args.index []) (ap (has held) (sym c.piece.ensures) ∙ c.in-None.ensures))
+    ap not c.is_repeated.ensures ∙ sym (new_by held (take c.args.index (pieces c.args.text.now)) (get_or (pieces c.args.text.now) c.args.index []) (ap (has held) (sym c.piece.ensures) ∙ c.in-None.ensures))

@@ -6,7 +6,7 @@ use Rattle.repository.specs.Tables.{held_by}
 use Rattle.repository.proofs.Held.{held_length, held_total}
 use Rattle.repository.proofs.Places.{none_new, new_length, new_total}
 use Rattle.repository.proofs.tables.Counts.planned.Goals as goal
-use Rattle.repository.proofs.tables.Counts.planned.Goals.{then-is-new, else-is-new}
+use Rattle.repository.proofs.tables.Counts.planned.Goals.{then-is_new, else-is_new}
 
 pub loop-i-init : goal.loop-i-init
 loop-i-init c =
@@ -19,15 +19,15 @@ loop-i-preserved c =
     let ps = pieces c.args.text.now in
     let held = held_by c.args.self.now c.args.tables.now in
     let lt : c.loop-i.i < length ps = omega arith in
-    let told = sym c.is-new.ensures in
-    elim c.if-is-new.branch [
-      | then-is-new w ↦
-          let l = new_length held ps c.loop-i.i lt (told ∙ w.if-is-new.true) in
-          let t = new_total held ps c.loop-i.i lt (told ∙ w.if-is-new.true) in
+    let told = sym c.is_new.ensures in
+    elim c.if-is_new.branch [
+      | then-is_new w ↦
+          let l = new_length held ps c.loop-i.i lt (told ∙ w.if-is_new.true) in
+          let t = new_total held ps c.loop-i.i lt (told ∙ w.if-is_new.true) in
           let p = ap length w.piece.ensures in
-          (omega (arith, w.atoms-is), omega (arith, w.atoms-is), omega (arith, w.bytes-is, w.saturating-add-bytes.ensures))
-      | else-is-new w ↦
-          let e = none_new held ps c.loop-i.i lt (told ∙ w.if-is-new.false) in
+          (omega (arith, w.atoms-is), omega (arith, w.atoms-is), omega (arith, w.bytes-is, w.saturating_add-bytes.ensures))
+      | else-is_new w ↦
+          let e = none_new held ps c.loop-i.i lt (told ∙ w.if-is_new.false) in
           (omega (arith, w.atoms-is), omega (arith, w.atoms-is, ap length e), omega (arith, w.bytes-is, ap total e))
     ]
 

@@ -15,8 +15,8 @@ intern-number-requires c =
     let r = room (held_by c.args.self.now c.args.tables.now) ps c.loop-i.i lt (held_by c.loop-i.self c.loop-i.tables) _ c.loop-i.invariant.3 c.piece.result.now c.piece.ensures in
     record { sound = c.loop-i.invariant.0; few = omega (arith, r.0, c.requires.few); short = omega (arith, r.1, c.requires.short) }
 
-pub overflow-cast-number : goal.overflow-cast-number
-overflow-cast-number c =
+pub overflow_cast-number : goal.overflow_cast-number
+overflow_cast-number c =
     let ps = pieces c.args.text.now in
     let lt : c.loop-i.i < length ps = omega arith in
     let b = below_all (held_by c.args.self.now c.args.tables.now) ps c.loop-i.i lt (held_by c.loop-i.self c.loop-i.tables) _ c.loop-i.invariant.3 c.piece.result.now c.piece.ensures in
