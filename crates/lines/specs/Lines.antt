@@ -1,6 +1,6 @@
 -- Texts are lists of bytes.
 use Rattle.std.specs.Prelude.{◌≡◌, ℕ, ◌-◌, ◌<◌, ◌≤◌, Bool, true, false, ◌&&◌, ◌||◌, ◌⊎◌, List, [], ◌∷◌, ◌++◌, length, ◌==◌, ◌≢◌, nat_le, slice_index, slice_range}
-use Rattle.std.specs.List.{AllByRecursion as All}
+use Rattle.std.specs.List.{AllByRecursion}
 
 -- white space: the bytes 9 to 13, and the blank
 abbrev pub white : ℕ → Bool
@@ -8,7 +8,7 @@ white b = b == 32 || (nat_le 9 b && nat_le b 13)
 
 -- `front` holds no such byte; it is all of the text, with nothing behind it, or the first such byte and `rest` follow
 pub record Splits (text : List ℕ) (byte : ℕ) (front rest : List ℕ) : Type 0 where
-  pub plain : All (λ b. b ≢ byte) front
+  pub plain : AllByRecursion (λ b. b ≢ byte) front
   pub whole : ((text ≡ front) × (rest ≡ [])) ⊎ (text ≡ front ++ byte ∷ rest)
 
 -- r is the text from `from` to `to`: it neither begins nor ends with white space, and outside is nothing else

@@ -6,6 +6,7 @@ mod names;
 
 use crate::files::Stopped;
 use std::env;
+use std::process::ExitCode;
 
 const USAGE: &str = "usage: pane names FILE
   names FILE   builds the scope names in FILE, one a line, and prints for each how many atoms it has,
@@ -51,12 +52,23 @@ fn start(rt: &HostRuntime) -> Result<(), Stopped> {
     }
 }
 
-fn main(rt: HostRuntime) -> Result<(), Stopped> {
-    let ended = start(&rt);
-    match ended {
-        Err(Stopped::Output) => eprintln!(rt; "pane: the output cannot be written")?,
-        Err(Stopped::Memory) => eprintln!(rt; "pane: memory is short")?,
-        _ => {}
+// Says why the program stops, where nothing has said it yet.
+fn tell(rt: &HostRuntime, stopped: Stopped) -> Result<(), Stopped> {
+    match stopped {
+        Stopped::Told => {}
+        Stopped::Output => eprintln!(rt; "pane: the output cannot be written")?,
+        Stopped::Memory => eprintln!(rt; "pane: memory is short")?,
     }
-    ended
+    Ok(())
+}
+
+fn main(rt: HostRuntime) -> ExitCode {
+    match start(&rt) {
+        Ok(()) => ExitCode::SUCCESS,
+        Err(stopped) => {
+            // the status says it even where no message can be printed
+            let _ = tell(&rt, stopped);
+            ExitCode::FAILURE
+        }
+    }
 }

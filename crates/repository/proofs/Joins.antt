@@ -1,6 +1,6 @@
 -- Cutting at dots undoes joining by dots, and joining undoes cutting.
 use Rattle.std.proofs.Common.{◌≡◌, ℕ, ◌+◌, ◌<◌, ◌≤◌, true, false, ◌&&◌, eqb, List, [], ◌∷◌, ◌++◌, length, get_or, take, sym, refl, ap, ◌∙◌, ⊎_elim, arith}
-use Rattle.std.specs.List.{flat_map, AllByRecursion as All}
+use Rattle.std.specs.List.{flat_map, AllByRecursion}
 use Rattle.std.proofs.lemmas.List.{append-nil, append_assoc, length-append, length_push, take_more, take_all}
 use Rattle.std.proofs.lemmas.Bool.{cases_Bool, cond-true, cond-false, ne_eqb, eqb-true, eqb-false, and_parts}
 use Rattle.repository.specs.Names.{Atom, Atoms, dots, stripped, before, pieces, cut, dotted}
@@ -9,7 +9,7 @@ use Rattle.repository.proofs.Cutting.{behind, behind_nil, some_pieces, strip_dot
 
 -- no byte is a dot
 abbrev Plain : Atom → Type 0
-Plain a = All (λ b. b ≡ 46 → ⊥) a
+Plain a = AllByRecursion (λ b. b ≡ 46 → ⊥) a
 
 -- ---- joining undoes cutting
 
@@ -29,11 +29,11 @@ dotted_pieces (b ∷ bs) =
     (λ (e : eqb b 46 ≡ false). simp e (dotted_before b (pieces bs) (some_pieces bs) ∙ ap (λ l. b ∷ l) (dotted_pieces bs)))
     (cases_Bool (eqb b 46))
 
-plain_before : (b : ℕ) (ps : Atoms) → (b ≡ 46 → ⊥) → All Plain ps → All Plain (before b ps)
+plain_before : (b : ℕ) (ps : Atoms) → (b ≡ 46 → ⊥) → AllByRecursion Plain ps → AllByRecursion Plain (before b ps)
 plain_before b [] ne h = ((ne, tt), tt)
 plain_before b (p ∷ ps) ne h = ((ne, h.0), h.1)
 
-pieces_plain : (t : List ℕ) → All Plain (pieces t)
+pieces_plain : (t : List ℕ) → AllByRecursion Plain (pieces t)
 pieces_plain [] = (tt, tt)
 pieces_plain (b ∷ bs) =
     ⊎_elim
@@ -52,7 +52,7 @@ pieces_plain_front [] t h = sym (behind_nil (pieces t) (some_pieces t))
 pieces_plain_front (b ∷ a) t h =
     cond-false (eqb b 46) _ _ (ne_eqb b 46 h.0) ∙ ap (before b) (pieces_plain_front a t h.1) ∙ before_behind b a (pieces t)
 
-pieces_dotted : (a : Atom) (rest : Atoms) → Plain a → All Plain rest → pieces (dotted (a ∷ rest)) ≡ a ∷ rest
+pieces_dotted : (a : Atom) (rest : Atoms) → Plain a → AllByRecursion Plain rest → pieces (dotted (a ∷ rest)) ≡ a ∷ rest
 pieces_dotted a [] h k = pieces_plain_front a [] h ∙ ap (λ l. l ∷ []) (append-nil a)
 pieces_dotted a (b ∷ rest) h k =
     pieces_plain_front a (flat_map (λ x. 46 ∷ x) (b ∷ rest)) h
@@ -62,7 +62,7 @@ pieces_dotted a (b ∷ rest) h k =
 -- ---- the dots at the end
 
 abbrev Dots : List ℕ → Type 0
-Dots e = All (λ b. b ≡ 46) e
+Dots e = AllByRecursion (λ b. b ≡ 46) e
 
 all_dots : (xs : List ℕ) → dots xs ≡ true → Dots xs
 all_dots [] h = tt

@@ -1,6 +1,6 @@
 -- A scope's name, built again, is the scope.
 use Rattle.std.proofs.Common.{◌≡◌, ℕ, zero, suc, ◌+◌, ◌-◌, ◌<◌, Bool, true, false, cond, ltb, List, [], ◌∷◌, ◌++◌, length, get_or, take, IfOk, Ok, Err, Result, sym, refl, ap, ◌∙◌, subst, ⊎_elim, arith}
-use Rattle.std.specs.List.{AllByRecursion as All}
+use Rattle.std.specs.List.{AllByRecursion}
 use Rattle.std.specs.Str.{bytes_eq}
 use Rattle.std.proofs.ByRecursion.{All-weaker}
 use Rattle.std.proofs.lemmas.Slice.Eq.{bytes_eq-Decides}
@@ -21,7 +21,7 @@ use Rattle.repository.proofs.Joins.{cut_cuts, cut_law}
 -- ---- each of some atoms is among them, and once learned is held
 
 abbrev Held : Atoms → Atoms → Type 0
-Held held atoms = All (λ a. has held a ≡ true) atoms
+Held held atoms = AllByRecursion (λ a. has held a ≡ true) atoms
 
 has_more : (x : Atom) (xs : Atoms) (a : Atom) → has xs a ≡ true → has (x ∷ xs) a ≡ true
 has_more x xs a h = elim (bytes_eq x a) as (λ t. cond t true (has xs a) ≡ true) [ true ↦ refl | false ↦ h ]

@@ -1,6 +1,6 @@
 -- Laws of names above their definitions, in terms of `cut`, `build` and `write`.
 use Rattle.std.specs.Prelude.{◌≡◌, ℕ, ◌<◌, ◌≤◌, true, false, List, [], ◌∷◌, ◌++◌, length, take, ◌≢◌, slice_index_or}
-use Rattle.std.specs.List.{AllByRecursion as All}
+use Rattle.std.specs.List.{AllByRecursion}
 use Rattle.scopes.specs.declared.scope.Scope.{Scope}
 use Rattle.scopes.specs.Scopes.{atoms_in}
 use Rattle.repository.specs.Names.{Atoms, dotted, cut}
@@ -12,11 +12,11 @@ use Rattle.repository.specs.Writes.{given, spelling}
 pub record Cuts (name : List ℕ) (atoms : Atoms) : Type 0 where
   pub ending : List ℕ
   pub whole : name ≡ dotted atoms ++ ending
-  pub dots : All (λ b. b ≡ 46) ending
+  pub dots : AllByRecursion (λ b. b ≡ 46) ending
   -- all the dots at the end are among those
   pub stripped : (front : List ℕ) → dotted atoms ≢ front ++ 46 ∷ []
   -- no atom holds a dot
-  pub plain : All (λ a. All (λ b. b ≢ 46) a) atoms
+  pub plain : AllByRecursion (λ a. AllByRecursion (λ b. b ≢ 46) a) atoms
   -- the empty name alone has no atoms
   pub none : atoms ≡ [] → name ≡ []
   pub empty : name ≡ [] → atoms ≡ []
@@ -28,9 +28,9 @@ pub record CutLaw (name : List ℕ) : Type 0 where
 
 -- of a name's atoms the new ones: they are the name's, each is new where it stands, and with them all are held
 pub record NewLaw (held atoms : Atoms) : Type 0 where
-  pub own : All (λ a. has atoms a ≡ true) (news held atoms)
+  pub own : AllByRecursion (λ a. has atoms a ≡ true) (news held atoms)
   pub once : (i : ℕ) → i < length (news held atoms) → has (held ++ take i (news held atoms)) (slice_index_or (news held atoms) i []) ≡ false
-  pub all : All (λ a. has (held ++ news held atoms) a ≡ true) atoms
+  pub all : AllByRecursion (λ a. has (held ++ news held atoms) a ≡ true) atoms
 
 -- the atoms of a later repository: the same, and perhaps more behind them
 pub record Later (held later : Atoms) : Type 0 where

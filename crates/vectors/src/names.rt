@@ -50,7 +50,7 @@ impl Record for Names {
                     && is_written(repository, scope, written)
             }
             Err(fault) => match fault {
-                NameFault::TooLong => answer == b"refused",
+                NameFault::TooLong => answer == b"refused".as_slice(),
                 _ => false,
             },
         }

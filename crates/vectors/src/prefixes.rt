@@ -16,9 +16,9 @@ impl Record for Prefixes {
             return false;
         };
         if p.is_prefix_of(s) {
-            answer == b"true"
+            answer == b"true".as_slice()
         } else {
-            answer == b"false"
+            answer == b"false".as_slice()
         }
     }
 }

@@ -63,7 +63,7 @@ impl Record for Rules {
     fn agrees(repository: &mut ScopeRepository, record: &[u8]) -> bool {
         let (name, answer) = split(record, b'\t');
         let Ok(scope) = repository.build(name) else {
-            return answer == b"refused";
+            return answer == b"refused".as_slice();
         };
         let (_, rest) = split(answer, b'\t');
         let (_, written) = split(rest, b'\t');

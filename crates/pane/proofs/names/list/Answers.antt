@@ -4,8 +4,8 @@ use Rattle.repository.specs.Held.{atoms_of}
 use Rattle.pane.proofs.Listed.{fewer, more, all, trimmed_short, line_short}
 use Rattle.pane.proofs.names.list.Goals as goal
 
-pub print-name-requires : goal.print-name-requires
-print-name-requires g c =
+pub print_name-requires : goal.print_name-requires
+print_name-requires g c =
     let short = trimmed_short c.split.result.0.now c.trimmed.result.now c.trimmed.ensures in
     let cut = line_short c.loop-rest.rest.now 10 c.split.result.0.now c.split.result.1.now c.split.ensures.splits in
     omega (arith, short, cut, (fewer c.loop-rest.invariant).1, c.requires)
@@ -18,8 +18,8 @@ counted-tally-requires g c =
 pub loop-rest-preserved : goal.loop-rest-preserved
 loop-rest-preserved g c =
     let some : 0 < length c.loop-rest.rest.now = search rules in
-    let told = c.in-ok-scope.ensures in
-    more c.args.text.now c.loop-rest.rest.now c.split.result.1.now (atoms_of c.args.repository.now) c.loop-rest.tally c.counted-tally.result (atoms_of c.loop-rest.repository) (atoms_of c.print-name.new.repository) c.trimmed.result.now c.in-ok-scope.scope
+    let told = c.in_ok-scope.ensures in
+    more c.args.text.now c.loop-rest.rest.now c.split.result.1.now (atoms_of c.args.repository.now) c.loop-rest.tally c.counted-tally.result (atoms_of c.loop-rest.repository) (atoms_of c.print_name.new.repository) c.trimmed.result.now c.in_ok-scope.scope
     c.loop-rest.invariant
     (record { some = some; line = c.split.result.0.now; splits = c.split.ensures.splits; trimmed = c.trimmed.ensures })
     (c.split.ensures.shorter some)

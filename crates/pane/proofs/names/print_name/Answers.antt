@@ -6,8 +6,8 @@ use Rattle.repository.proofs.Owned.{now_later}
 use Rattle.pane.proofs.names.print_name.Goals as goal
 
 -- the name that is written back is no longer than the one that was read
-pub print-scope-requires : goal.print-scope-requires
-print-scope-requires g c =
+pub print_scope-requires : goal.print_scope-requires
+print_scope-requires g c =
     let repository = c.build.new.self in
     let back = c.in-Ok.ensures.returns (atoms_of repository) (now_later repository) in
     let cuts = c.build.ensures.cut.cuts in
