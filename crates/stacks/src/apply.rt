@@ -21,7 +21,7 @@ impl ScopeStack {
         shown: &S,
     ) -> Result<(), OpFault>
         ensures stack { Applied (Push scope) (stack_of self.old) result (stack_of self.new) }
-        ensures told { Chain told shown.now (told_of (Push scope) (stack_of self.old) result) hook.old hook.new }
+        ensures told { Chain H.told shown.now (told_of (Push scope) (stack_of self.old) result) hook.old hook.new }
     {
         self.push(scope)?;
         let now = self.as_slice();
@@ -33,7 +33,7 @@ impl ScopeStack {
     fn step_down<S, H: Hook<S>>(&mut self, hook: &mut H, shown: &S)
         requires { 0 < length (stack_of self.old).scopes }
         ensures stack { stack_of self.new ≡ after (Pop 1) (stack_of self.old) }
-        ensures told { told shown.now PopTold (stack_of self.new).scopes hook.old hook.new }
+        ensures told { H.told shown.now PopTold (stack_of self.new).scopes hook.old hook.new }
     {
         self.lower();
         let now = self.as_slice();
@@ -47,7 +47,7 @@ impl ScopeStack {
         shown: &S,
     ) -> Result<(), OpFault>
         ensures stack { Applied (Pop count) (stack_of self.old) result (stack_of self.new) }
-        ensures told { Chain told shown.now (told_of (Pop count) (stack_of self.old) result) hook.old hook.new }
+        ensures told { Chain H.told shown.now (told_of (Pop count) (stack_of self.old) result) hook.old hook.new }
     {
         if exceeds(count, self.height()) {
             return Err(OpFault::TooFew);
@@ -66,7 +66,7 @@ impl ScopeStack {
         shown: &S,
     ) -> Result<(), OpFault>
         ensures stack { Applied (Clear amount) (stack_of self.old) result (stack_of self.new) }
-        ensures told { Chain told shown.now (told_of (Clear amount) (stack_of self.old) result) hook.old hook.new }
+        ensures told { Chain H.told shown.now (told_of (Clear amount) (stack_of self.old) result) hook.old hook.new }
     {
         let cut = amount.of(self.height());
         self.clear(amount)?;
@@ -79,7 +79,7 @@ impl ScopeStack {
     // Each scope is told as it comes back, with the stack up to it.
     fn apply_restore<S, H: Hook<S>>(&mut self, hook: &mut H, shown: &S) -> Result<(), OpFault>
         ensures stack { Applied Restore (stack_of self.old) result (stack_of self.new) }
-        ensures told { Chain told shown.now (told_of Restore (stack_of self.old) result) hook.old hook.new }
+        ensures told { Chain H.told shown.now (told_of Restore (stack_of self.old) result) hook.old hook.new }
     {
         let before = self.height();
         self.restore()?;
@@ -97,7 +97,7 @@ impl ScopeStack {
         shown: &S,
     ) -> Result<(), OpFault>
         ensures stack { Applied op (stack_of self.old) result (stack_of self.new) }
-        ensures told { Chain told shown.now (told_of op (stack_of self.old) result) hook.old hook.new }
+        ensures told { Chain H.told shown.now (told_of op (stack_of self.old) result) hook.old hook.new }
     {
         match op {
             ScopeStackOp::Push(scope) => self.apply_push(scope, hook, shown),
@@ -118,9 +118,9 @@ impl ScopeStack {
     ) -> Result<(), OpFault>
         ensures stack { Applied op (stack_of self.old) result (stack_of self.new) }
         ensures done { DoneLaw op (stack_of self.old) }
-        ensures told { Chain told shown.now (told_of op (stack_of self.old) result) hook.old hook.new }
+        ensures told { Chain H.told shown.now (told_of op (stack_of self.old) result) hook.old hook.new }
         ensures tells { TellLaw op (stack_of self.old) }
-        ensures follows { can hook.old → scopes hook.old ≡ (stack_of self.old).scopes → (scopes hook.new ≡ (stack_of self.new).scopes) × can hook.new }
+        ensures follows { H.can hook.old → H.scopes hook.old ≡ (stack_of self.old).scopes → (H.scopes hook.new ≡ (stack_of self.new).scopes) × H.can hook.new }
     {
         self.perform(op, hook, shown)
     }

@@ -12,8 +12,8 @@ loop-init g c =
     let s = stack_of c.args.self.now in
     (omega (arith, c.height.ensures, ltb-false c.height.result c.args.count (sym c.exceeds.ensures ∙ c.if-exceeds.false)), (λ i. record { scopes = sym (below_none s.scopes) i; asides = s.asides }), refl)
 
-pub step-down-requires : goal.step-down-requires
-step-down-requires g c =
+pub step_down-requires : goal.step_down-requires
+step_down-requires g c =
     let s = stack_of c.args.self.now in
     omega (arith, ap (λ t. length t.scopes) c.loop.invariant.1, length_below c.loop.counter s.scopes, c.loop.invariant.0)
 
@@ -21,7 +21,7 @@ pub loop-preserved : goal.loop-preserved
 loop-preserved g c =
     let s = stack_of c.args.self.now in
     let n = c.loop.counter in
-    let down = c.step-down.ensures in
+    let down = c.step_down.ensures in
     let lower = down.stack ∙ ap (λ t. record { scopes = below 1 t.scopes; asides = t.asides }) c.loop.invariant.1 ∙ (λ i. record { scopes = below_more n 1 s.scopes i; asides = s.asides }) in
-    let told = subst (λ st. g.H.Hook.told c.args.shown.now Pop st c.loop.hook c.step-down.new.hook) (ap (λ (t : Stack). t.scopes) lower) down.told in
-    (c.loop.invariant.0, lower, chain_pops g.H.Hook.told c.args.shown.now s.scopes n c.args.hook.now c.loop.hook c.step-down.new.hook c.loop.invariant.2 told)
+    let told = subst (λ st. g.H.Hook.told c.args.shown.now Pop st c.loop.hook c.step_down.new.hook) (ap (λ (t : Stack). t.scopes) lower) down.told in
+    (c.loop.invariant.0, lower, chain_pops g.H.Hook.told c.args.shown.now s.scopes n c.args.hook.now c.loop.hook c.step_down.new.hook c.loop.invariant.2 told)

@@ -12,7 +12,7 @@ pub loop-i-preserved : goal.loop-i-preserved
 loop-i-preserved g c =
     let told = g.H.Hook.told in
     let shown = c.args.shown.now in
-    let all = c.as-slice-all.result.now in
+    let all = c.as_slice-all.result.now in
     let b = c.height-before.result in
     let i = c.loop-i.i in
     let x = c.index-all-i.result in
@@ -32,10 +32,10 @@ loop-i-preserved g c =
 pub returns : goal.returns
 returns g c =
     let s = stack_of c.args.self.now in
-    let done = c.in-ok-restore.ensures in
-    let all = c.as-slice-all.result.now in
+    let done = c.in_ok-restore.ensures in
+    let all = c.as_slice-all.result.now in
     let b = c.height-before.result in
-    let parts : all ≡ s.scopes ++ newest s = c.as-slice-all.ensures.scopes ∙ ap (λ (t : Stack). t.scopes) done.moved in
+    let parts : all ≡ s.scopes ++ newest s = c.as_slice-all.ensures.scopes ∙ ap (λ (t : Stack). t.scopes) done.moved in
     let low : take b all ≡ s.scopes = ap (take b) parts ∙ take_at s.scopes (newest s) b (sym c.height-before.ensures) in
     let high : drop b all ≡ newest s = ap (drop b) parts ∙ drop_at s.scopes (newest s) b (sym c.height-before.ensures) in
     let back : take (c.loop-i.i - b) (drop b all) ≡ newest s =

@@ -4,8 +4,8 @@ use Rattle.stacks.specs.Stacks.{stack_of}
 use Rattle.stacks.proofs.Memory.{counted}
 use Rattle.stacks.proofs.scope_stack.ScopeStack.lower.Goals as goal
 
-pub overflow-sub-self : goal.overflow-sub-self
-overflow-sub-self c = omega (arith, c.requires, (counted c.args.self.now).height)
+pub overflow_sub-self : goal.overflow_sub-self
+overflow_sub-self c = omega (arith, c.requires, (counted c.args.self.now).height)
 
 pub returns : goal.returns
 unfolding stack_of

@@ -5,10 +5,10 @@ use Rattle.stacks.specs.Stacks.{stack_of}
 use Rattle.stacks.proofs.Memory.{counted}
 use Rattle.stacks.proofs.scope_stack.ScopeStack.push.Goals as goal
 
-pub returns-then-is-most : goal.returns-then-is-most
-returns-then-is-most c =
+pub returns-then-is_most : goal.returns-then-is_most
+returns-then-is_most c =
     record {
-      first = cond-true _ (Some 15) None (ap (leb 64) (counted c.args.self.now).all ∙ sym c.is-most.ensures ∙ c.if-is-most.true);
+      first = cond-true _ (Some 15) None (ap (leb 64) (counted c.args.self.now).all ∙ sym c.is_most.ensures ∙ c.if-is_most.true);
       same = refl;
     }
 
@@ -17,6 +17,6 @@ unfolding stack_of
 returns c =
     let s = c.args.self.now in
     record {
-      unrefused = cond-false _ (Some 15) None (ap (leb 64) (counted s).all ∙ sym c.is-most.ensures ∙ c.if-is-most.false);
+      unrefused = cond-false _ (Some 15) None (ap (leb 64) (counted s).all ∙ sym c.is_most.ensures ∙ c.if-is_most.false);
       moved = λ i. record { scopes = take_more_set s.scopes s.height c.args.scope (omega arith) i; asides = (stack_of s).asides };
     }

@@ -11,8 +11,8 @@ use Rattle.stacks.proofs.scope_stack.ScopeStack.restore.Goals as goal
 pub returns-then-self-eq0 : goal.returns-then-self-eq0
 returns-then-self-eq0 c = record { first = cond-true _ (Some 18) None (eq-eqb _ 0 (omega (arith, (counted c.args.self.now).count))); same = refl }
 
-pub overflow-sub-left : goal.overflow-sub-left
-overflow-sub-left c = omega (arith, newest_size c.args.self.now c.if-self-eq0.false)
+pub overflow_sub-left : goal.overflow_sub-left
+overflow_sub-left c = omega (arith, newest_size c.args.self.now c.if-self-eq0.false)
 
 pub copy-requires : goal.copy-requires
 copy-requires c =
@@ -20,17 +20,17 @@ copy-requires c =
     let size = newest_size s c.if-self-eq0.false in
     record { room = omega (arith, s.fits, s.long); there = omega (arith, s.fits, s.wide) }
 
-pub overflow-add-self : goal.overflow-add-self
-overflow-add-self c = omega (arith, newest_size c.args.self.now c.if-self-eq0.false, c.args.self.now.fits)
+pub overflow_add-self : goal.overflow_add-self
+overflow_add-self c = omega (arith, newest_size c.args.self.now c.if-self-eq0.false, c.args.self.now.fits)
 
-pub invariant-of-self : goal.invariant-of-self
-invariant-of-self c =
+pub invariant_of-self : goal.invariant_of-self
+invariant_of-self c =
     let s = c.args.self.now in
     let k = get_or s.sizes (s.count - 1) 0 in
     let size = newest_size s c.if-self-eq0.false in
     let there = length-drop (s.kept - k) s.aside in
     let long = length-paste s.scopes s.height (drop (s.kept - k) s.aside) k (omega (arith, s.fits, s.long)) (omega (arith, s.fits, s.wide)) in
-    (omega (arith, s.fits), (omega (arith, s.few), (omega arith, (ap length c.copy.ensures ∙ long ∙ s.long, (s.wide, (s.deep, tt))))))
+    record { fits = omega (arith, s.fits); few = omega (arith, s.few); adds = omega arith; long = ap length c.copy.ensures ∙ long ∙ s.long; wide = s.wide; deep = s.deep }
 
 pub returns : goal.returns
 unfolding stack_of

@@ -12,6 +12,6 @@ returns c =
     let long = length-drop c.args.start c.args.from.now in
     let l : length (take n there) ≡ n = length-take-le n there (omega arith) in
     let e : c.args.start + n - c.args.start ≡ n = omega arith in
-    let same : c.copy-from-slice.new.self ≡ take n there = c.copy-from-slice.ensures.after ∙ ap (λ k. take k there) e in
-    put_mid-paste at (at + n - at) to c.copy-from-slice.new.self (take n there) n same (omega arith) (sym l)
+    let same : c.copy_from_slice.new.self ≡ take n there = c.copy_from_slice.ensures.after ∙ ap (λ k. take k there) e in
+    put_mid-paste at (at + n - at) to c.copy_from_slice.new.self (take n there) n same (omega arith) (sym l)
     ∙ ap (λ ys. (take at to ++ ys) ++ drop (at + n) to) (take-take n n there (omega arith))

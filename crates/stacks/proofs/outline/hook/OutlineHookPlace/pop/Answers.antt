@@ -7,8 +7,8 @@ use Rattle.stacks.proofs.outline.hook.OutlineHookPlace.pop.Goals as goal
 
 pub returns-then-self-gt0 : goal.returns-then-self-gt0
 unfolding outline_of
-returns-then-self-gt0 c = let o = c.args.self.now in moves c.args.-shown.now Pop _ _ (row_less o.beginnings o.height o.long o.few)
+returns-then-self-gt0 c = let o = c.args.self.now in moves c.args._shown.now Pop _ _ (row_less o.beginnings o.height o.long o.few)
 
 pub returns-else-self-gt0 : goal.returns-else-self-gt0
 unfolding outline_of
-returns-else-self-gt0 c = let o = c.args.self.now in moves c.args.-shown.now Pop _ _ (row_none o.beginnings o.height o.long o.few (omega arith))
+returns-else-self-gt0 c = let o = c.args.self.now in moves c.args._shown.now Pop _ _ (row_none o.beginnings o.height o.long o.few (omega arith))
