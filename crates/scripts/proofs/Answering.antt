@@ -2,7 +2,7 @@
 use Rattle.std.proofs.Common.{◌≡◌, ℕ, ◌+◌, ◌-◌, ◌^◌, ◌<◌, Bool, true, false, cond, ◌&&◌, ◌||◌, eqb, ltb, leb, ◌⊎◌, List, [], ◌∷◌, length, drop, Ok, Err, Result, sym, refl, ap, ◌∙◌, subst, inl, inr, ⊎_elim, arith}
 use Rattle.std.specs.Str.Parse.{digits_value}
 use Rattle.std.specs.Int.{IsInRange}
-use Rattle.std.specs.List.{AllByRecursion as All}
+use Rattle.std.specs.List.{AllByRecursion}
 use Rattle.std.specs.Str.{bytes_eq}
 use Rattle.std.proofs.lemmas.Slice.Eq.{bytes_eq-Decides}
 use Rattle.std.proofs.lemmas.Bool.{cases_Bool, and_from, and_parts, or_from, cond-true, cond-false, lt-ltb, ltb-true, le-leb, leb-true, eq-eqb, ne_eqb}
@@ -38,11 +38,11 @@ digit_true b h = and_from (leb 48 b) (leb b 57) (le-leb 48 b h.0) (le-leb b 57 h
 digit_in : (b : ℕ) → digit b ≡ true → IsInRange 48 57 b
 digit_in b e = let p = and_parts (leb 48 b) (leb b 57) e in (leb-true 48 b p.0, leb-true b 57 p.1)
 
-digits_true : (w : List ℕ) → All (IsInRange 48 57) w → digits w ≡ true
+digits_true : (w : List ℕ) → AllByRecursion (IsInRange 48 57) w → digits w ≡ true
 digits_true [] h = refl
 digits_true (b ∷ bs) h = and_from (digit b) (digits bs) (digit_true b h.0) (digits_true bs h.1)
 
-digits_in : (w : List ℕ) → digits w ≡ true → All (IsInRange 48 57) w
+digits_in : (w : List ℕ) → digits w ≡ true → AllByRecursion (IsInRange 48 57) w
 digits_in [] e = tt
 digits_in (b ∷ bs) e = let p = and_parts (digit b) (digits bs) e in (digit_in b p.0, digits_in bs p.1)
 
@@ -117,7 +117,7 @@ module _ (position size : ℕ) where
   count_is w rest n h = cond-true _ _ _ (number_true w n h) ∙ ap (λ m. ending (pops m) rest) (sym h.is)
 
   not_all : (w : List ℕ) (n : ℕ) → Number w n → w ≡ all_word → ⊥
-  not_all w n h e = let d = subst (All (IsInRange 48 57)) e h.digits in omega (arith, d.0.1)
+  not_all w n h e = let d = subst (AllByRecursion (IsInRange 48 57)) e h.digits in omega (arith, d.0.1)
 
   amount_is : (w rest : List ℕ) (n : ℕ) → Number w n → by_amount w rest ≡ ending (clears (TopN n)) rest
   amount_is w rest n h =

@@ -1,6 +1,6 @@
 -- A text cut into blanks, a word and the rest, and that it is cut in one way only.
 use Rattle.std.proofs.Common.{◌≡◌, ℕ, ◌+◌, ◌-◌, ◌<◌, ◌≤◌, true, cond, eqb, List, [], ◌∷◌, ◌++◌, length, get_or, take, drop, sym, refl, ap, ◌∙◌, subst, inl, inr, ⊎_elim, arith}
-use Rattle.std.specs.List.{AllByRecursion as All}
+use Rattle.std.specs.List.{AllByRecursion}
 use Rattle.std.proofs.lemmas.List.{take-append-drop, drop-drop, drop_more, take_rest, drop_all, length-take, length-drop, length-append, get_or-take, get_or-drop, nil_from_length}
 use Rattle.std.proofs.ByRecursion.{All-from_get_or}
 use Rattle.std.proofs.lemmas.Bool.{cases_lt, eqb-true, ne_eqb, cond-false}
@@ -19,7 +19,7 @@ module _ (text : List ℕ) (start end : ℕ) (rising : start ≤ end) (within : 
         let back = sym (take-append-drop (end - start) (drop start text)) ∙ ap (λ l. take (end - start) (drop start text) ++ l) (drop-drop (end - start) start text ∙ ap (λ n. drop n text) there) in
         sym (take-append-drop start text) ∙ ap (λ l. take start text ++ l) back
 
-    plain_is : All (λ b. b ≡ 32 → ⊥) (take (end - start) (drop start text))
+    plain_is : AllByRecursion (λ b. b ≡ 32 → ⊥) (take (end - start) (drop start text))
     plain_is =
         All-from_get_or (λ b. b ≡ 32 → ⊥) (take (end - start) (drop start text)) 0
         (λ i lt e. plain (start + i) (omega arith) (omega (arith, length-take (end - start) (drop start text))) (sym (get_or-drop start text i 0) ∙ sym (get_or-take (end - start) (drop start text) i 0 (omega (arith, length-take (end - start) (drop start text)))) ∙ e))
@@ -63,20 +63,20 @@ abbrev back : List ℕ → List ℕ
 back [] = []
 back (b ∷ bs) = cond (eqb b 32) (b ∷ bs) (back bs)
 
-passed_blanks : (blanks l : List ℕ) → All (λ b. b ≡ 32) blanks → passed (blanks ++ l) ≡ passed l
+passed_blanks : (blanks l : List ℕ) → AllByRecursion (λ b. b ≡ 32) blanks → passed (blanks ++ l) ≡ passed l
 passed_blanks [] l h = refl
 passed_blanks (b ∷ bs) l h = ap (λ x. cond (eqb x 32) (passed (bs ++ l)) (x ∷ bs ++ l)) h.0 ∙ passed_blanks bs l h.1
 
-passed_word : (w rest : List ℕ) → All (λ b. b ≡ 32 → ⊥) w → (w ≡ [] → rest ≡ []) → passed (w ++ rest) ≡ w ++ rest
+passed_word : (w rest : List ℕ) → AllByRecursion (λ b. b ≡ 32 → ⊥) w → (w ≡ [] → rest ≡ []) → passed (w ++ rest) ≡ w ++ rest
 passed_word [] rest h n = ap passed (n refl) ∙ sym (n refl)
 passed_word (b ∷ bs) rest h n = cond-false (eqb b 32) _ _ (ne_eqb b 32 h.0)
 
-front_word : (w rest : List ℕ) → All (λ b. b ≡ 32 → ⊥) w → Ended rest → front (w ++ rest) ≡ w
+front_word : (w rest : List ℕ) → AllByRecursion (λ b. b ≡ 32 → ⊥) w → Ended rest → front (w ++ rest) ≡ w
 front_word [] rest h (inl e) = ap front e
 front_word [] rest h (inr p) = ap front p.1
 front_word (b ∷ bs) rest h e = cond-false (eqb b 32) _ _ (ne_eqb b 32 h.0) ∙ ap (λ l. b ∷ l) (front_word bs rest h.1 e)
 
-back_word : (w rest : List ℕ) → All (λ b. b ≡ 32 → ⊥) w → Ended rest → back (w ++ rest) ≡ rest
+back_word : (w rest : List ℕ) → AllByRecursion (λ b. b ≡ 32 → ⊥) w → Ended rest → back (w ++ rest) ≡ rest
 back_word [] rest h (inl e) = ap back e ∙ sym e
 back_word [] rest h (inr p) = ap back p.1 ∙ sym p.1
 back_word (b ∷ bs) rest h e = cond-false (eqb b 32) _ _ (ne_eqb b 32 h.0) ∙ back_word bs rest h.1 e

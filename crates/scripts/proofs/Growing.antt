@@ -3,7 +3,7 @@ use Rattle.std.proofs.Common.{◌≡◌, ℕ, ◌+◌, ◌-◌, ◌*◌, ◌^◌
 use Rattle.std.specs.Str.Parse.{digits_value, digits_value_after}
 use Rattle.std.specs.Int.{IsInRange}
 use Rattle.std.specs.Char.{digit_value as digitValue}
-use Rattle.std.specs.List.{AllByRecursion as All}
+use Rattle.std.specs.List.{AllByRecursion}
 use Rattle.std.proofs.lemmas.Int.Digits.{digits_value_more}
 use Rattle.std.proofs.ByRecursion.{All-get_or, All-more}
 use Rattle.std.proofs.lemmas.List.{take_all, take-append-drop}
@@ -12,7 +12,7 @@ use Rattle.scripts.specs.Numbers.{Number, NoNumber}
 
 -- n is the number that the first i digits write
 abbrev pub SoFar : List ℕ → ℕ → ℕ → Type 0
-SoFar w i n = All (IsInRange 48 57) (take i w) × (n ≡ digits_value 10 (take i w)) × (n < 2 ^ 64)
+SoFar w i n = AllByRecursion (IsInRange 48 57) (take i w) × (n ≡ digits_value 10 (take i w)) × (n < 2 ^ 64)
 
 digit_value : (c : ℕ) → IsInRange 48 57 c → digitValue c ≡ c - 48
 digit_value c h = grind (arith, nat_tests)
@@ -45,4 +45,4 @@ module _ (w : List ℕ) (i : ℕ) (lt : i < length w) where
 pub number_all : (w : List ℕ) (i n : ℕ) → 0 < length w → length w ≤ i → SoFar w i n → Number w n
 number_all w i n some le inv =
     let all = take_all i w le in
-    record { some = some; digits = subst (All (IsInRange 48 57)) all inv.0; is = inv.1 ∙ ap (digits_value 10) all; small = inv.2 }
+    record { some = some; digits = subst (AllByRecursion (IsInRange 48 57)) all inv.0; is = inv.1 ∙ ap (digits_value 10) all; small = inv.2 }

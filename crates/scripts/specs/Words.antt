@@ -1,6 +1,6 @@
 -- Texts are lists of bytes. A word is some bytes other than the blank, and words are parted by blanks.
 use Rattle.std.specs.Prelude.{◌≡◌, ℕ, ◌+◌, ◌⊎◌, List, [], ◌∷◌, ◌++◌, length, ◌≢◌}
-use Rattle.std.specs.List.{AllByRecursion as All}
+use Rattle.std.specs.List.{AllByRecursion}
 
 -- nothing, or a blank and more
 abbrev pub Ended : List ℕ → Type 0
@@ -10,8 +10,8 @@ Ended rest = (rest ≡ []) ⊎ ((more : List ℕ) × (rest ≡ 32 ∷ more))
 pub record Word (text w rest : List ℕ) : Type 0 where
   pub blanks : List ℕ
   pub whole : text ≡ blanks ++ (w ++ rest)
-  pub before : All (λ b. b ≡ 32) blanks
-  pub plain : All (λ b. b ≢ 32) w
+  pub before : AllByRecursion (λ b. b ≡ 32) blanks
+  pub plain : AllByRecursion (λ b. b ≢ 32) w
   pub ended : Ended rest
   pub none : w ≡ [] → rest ≡ []
 

@@ -1,6 +1,6 @@
 -- Every operation has one outcome, and its tellings lead a list of scopes there too.
 use Rattle.std.proofs.Common.{◌≡◌, ℕ, zero, suc, ◌+◌, ◌-◌, ◌≤◌, Bool, true, false, ltb, List, [], ◌∷◌, ◌++◌, map, length, get_or, replicate, None, sym, refl, ap, ◌∙◌, subst, arith}
-use Rattle.std.specs.List.{AllByRecursion as All}
+use Rattle.std.specs.List.{AllByRecursion}
 use Rattle.std.proofs.lemmas.List.{length_push, length-drop, append-nil, append_assoc, take_all, take_more}
 use Rattle.std.proofs.lemmas.Bool.{cond_below, ltb-false, leb-false, eqb-false}
 use Rattle.scopes.specs.declared.scope.Scope.{Scope}
@@ -114,7 +114,7 @@ acts_pushes : (xs ys : List Scope) → map (λ t. t.act) (pushes xs ys) ≡ map 
 acts_pushes xs [] = refl
 acts_pushes xs (y ∷ ys) = ap (λ more. PushTold y ∷ more) (acts_pushes (xs ++ y ∷ []) ys)
 
-each_cut : (xs : List Scope) (n : ℕ) → All (λ t. t.stack ≡ xs) (cuts xs n)
+each_cut : (xs : List Scope) (n : ℕ) → AllByRecursion (λ t. t.stack ≡ xs) (cuts xs n)
 each_cut xs zero = tt
 each_cut xs (suc n) = (refl, each_cut xs n)
 
@@ -134,7 +134,7 @@ same_steps xs (t ∷ ts) (u ∷ us) e p q =
     λ i. same_telling t u a s i ∷ same_steps t.stack ts us b p.1 (subst (λ ys. Steps ys us) (sym s) q.1) i
 
 -- and so are those of the same acts on one stack
-same_cuts : (xs : List Scope) (ts us : List Telling) → map (λ t. t.act) ts ≡ map (λ t. t.act) us → All (λ t. t.stack ≡ xs) ts → All (λ t. t.stack ≡ xs) us → ts ≡ us
+same_cuts : (xs : List Scope) (ts us : List Telling) → map (λ t. t.act) ts ≡ map (λ t. t.act) us → AllByRecursion (λ t. t.stack ≡ xs) ts → AllByRecursion (λ t. t.stack ≡ xs) us → ts ≡ us
 same_cuts xs [] [] e p q = refl
 same_cuts xs [] (u ∷ us) e p q = let z : ◌≡◌ {A = ℕ} 0 1 = cc in absurd (omega arith)
 same_cuts xs (t ∷ ts) [] e p q = let z : ◌≡◌ {A = ℕ} 0 1 = cc in absurd (omega arith)

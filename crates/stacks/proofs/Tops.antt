@@ -1,6 +1,6 @@
 -- A list's top: its last elements.
 use Rattle.std.proofs.Common.{◌≡◌, ℕ, ◌+◌, ◌-◌, ◌<◌, ◌≤◌, List, [], ◌∷◌, ◌++◌, length, get_or, take, drop, sym, ap, ◌∙◌, arith}
-use lib.Seq.{paste}
+use Rattle.std.proofs.Math.Seq.{paste}
 use Rattle.std.proofs.lemmas.List.{length_push, length-take, take_all, take_at, take-take, take_more, get_or_push, get_or-drop, take-append-drop, length-append, length-drop, drop_at, drop-take}
 use Rattle.stacks.specs.declared.ops.ClearAmount.{ClearAmount}
 use Rattle.stacks.specs.declared.ops.ClearAmount.TheVariants.{TopN, All}

@@ -1,6 +1,6 @@
 -- What a hook is told, and what becomes of it.
 use Rattle.std.specs.Prelude.{◌≡◌, ℕ, zero, suc, cond, List, [], ◌∷◌, ◌++◌, map, length, replicate, None, Ok, Err, Result, nat_lt}
-use Rattle.std.specs.List.{AllByRecursion as All}
+use Rattle.std.specs.List.{AllByRecursion}
 use Rattle.scopes.specs.declared.scope.Scope.{Scope}
 use Rattle.stacks.specs.declared.faults.OpFault.{OpFault}
 use Rattle.stacks.specs.declared.ops.BasicScopeStackOp.{BasicScopeStackOp}
@@ -74,7 +74,7 @@ Steps xs (t ∷ ts) = (t.stack ≡ moved t.act xs) × Steps t.stack ts
 abbrev pub Standing : ScopeStackOp → Stack → List Telling → Type 0
 Standing (PushOp x) s ts = Steps s.scopes ts
 Standing (PopOp n) s ts = Steps s.scopes ts
-Standing (Clear a) s ts = All (λ t. t.stack ≡ (after (Clear a) s).scopes) ts
+Standing (Clear a) s ts = AllByRecursion (λ t. t.stack ≡ (after (Clear a) s).scopes) ts
 Standing Restore s ts = Steps s.scopes ts
 Standing Noop s ts = Steps s.scopes ts
 
