@@ -51,6 +51,6 @@ fn report(
 pub fn run(rt: &HostRuntime, path: &str) -> Result<(), Stopped> {
     let text = read(rt, path, "a pane script is expected")?;
     let mut buffer = vec![in rt.alloc(); 0u8; text.len()]?;
-    let mut out = BufWriter::new(rt.stdout());
+    let mut out = BufWriter::new(rt.alloc(), rt.stdout())?;
     report(rt, &mut out, path, text.as_slice(), buffer.as_mut_slice())
 }

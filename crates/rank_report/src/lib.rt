@@ -120,6 +120,6 @@ fn report(rt: &HostRuntime, out: &mut impl Write, path: &str, text: &[u8]) -> Re
 
 pub fn run(rt: &HostRuntime, path: &str) -> Result<(), Stopped> {
     let text = read(rt, path, "lines of a path, a tab and a stack are expected")?;
-    let mut out = BufWriter::new(rt.stdout());
+    let mut out = BufWriter::new(rt.alloc(), rt.stdout())?;
     report(rt, &mut out, path, text.as_slice())
 }

@@ -14,8 +14,11 @@ pub enum Stopped {
 }
 
 impl From<io::Error> for Stopped {
-    fn from(_error: io::Error) -> Stopped {
-        Stopped::Output
+    fn from(error: io::Error) -> Stopped {
+        match error.kind() {
+            ErrorKind::OutOfMemory => Stopped::Memory,
+            _ => Stopped::Output,
+        }
     }
 }
 
