@@ -10,13 +10,11 @@ ghost use Rattle.std.specs.Float.Ieee.Exact.{HasValue};
 ghost use Rattle.scopes.specs.Scopes.{begins};
 ghost use Rattle.rankings.specs.Layings.{atoms, blank};
 ghost use Rattle.rankings.specs.Ranks.{near_atoms, near_position};
-ghost use Rattle.earliest.specs.Scores.{term, plus, lone_rank, BitsOrder, lone-rank};
+ghost use Rattle.earliest.specs.Scores.{term, plus, lone_rank, BitsOrder};
 ghost use Rattle.earliest.specs.Lowest.{PlacesLaw};
 ghost use Rattle.earliest.specs.Ranks.{path_rank, ByLowest, Finite, Whole, ScoresOrder};
 ghost use Rattle.earliest.specs.PathLaws;
-ghost use Rattle.std.proofs.lemmas.Bool.{lt-leb};
-ghost use Rattle.std.proofs.Common.{le-leb, rules};
-ghost use Rattle.earliest.specs.LoneLaws;
+ghost use Rattle.earliest.specs.RankingLaws;
 
 pub mod places;
 
@@ -160,15 +158,15 @@ impl Ranking for Earliest {
 
     ghost notAbove = { leb };
 
-    ghost answers = { λ p stack h. PathLaws.answers p stack };
+    ghost answers = { RankingLaws.answers };
 
-    ghost total = { Prim.search rules };
+    ghost total = { RankingLaws.total };
 
-    ghost transitive = { Prim.search rules };
+    ghost transitive = { RankingLaws.transitive };
 
-    ghost longer = { λ n m i a b l. lt-leb (lone-rank m i) (lone-rank n i) (LoneLaws.longer n m i a.some l b.few a.low) };
+    ghost longer = { RankingLaws.longer };
 
-    ghost deeper = { λ n m i j a b l. le-leb (lone-rank n i) (lone-rank m j) (LoneLaws.deeper n m i j a.some a.few b.some b.few l b.low) };
+    ghost deeper = { RankingLaws.deeper };
 
     ghost single = { PathLaws.single };
 
