@@ -8,7 +8,7 @@ pub returns : goal.returns
 returns c =
     let path = c.args.path.now in
     let stack = c.args.stack.now in
-    let e = c.path-rank.ensures in
+    let e = c.path_rank.ensures in
     record {
       rank = e;
       earliest = subst (λ (o : Option ℕ). ByLowest path stack o) (sym e) (by_lowest path stack);

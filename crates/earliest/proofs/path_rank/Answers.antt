@@ -9,7 +9,7 @@ use Rattle.earliest.specs.Doubles.{zero_is, value_number}
 use Rattle.earliest.specs.Sums.{under_more, plus_under}
 use Rattle.earliest.proofs.Adding.{rest, add_here, add_later, add_all, add_short, add_whole_path}
 use Rattle.earliest.proofs.path_rank.Goals as goal
-use Rattle.earliest.proofs.path_rank.Goals.{then-fits-at+else-k-path, else-fits-at}
+use Rattle.earliest.proofs.path_rank.Goals.{then-fits_at+else-k-path, else-fits_at}
 
 pub loop-i-init : goal.loop-i-init
 loop-i-init c =
@@ -20,13 +20,13 @@ loop-i-init c =
 small : (x y : Float) (n i : ℕ) → y ≡ plus x n i → i < 64 → n ≤ 8 → Under i x → Under (suc i) y
 small x y n i e h f u = subst (λ (z : Float). Under (suc i) z) (sym e) (plus_under i n x h f u)
 
-pub float-to-bits-result : goal.float-to-bits-result
-float-to-bits-result c =
+pub float_to_bits-result : goal.float_to_bits-result
+float_to_bits-result c =
     let s = get_or c.args.path.now c.loop-i.k blank in
-    let y = c.add-scope-sum.result in
+    let y = c.add_scope-sum.result in
     let i = c.loop-i.i in
     let few : i < 64 = omega arith in
-    let u = small c.loop-i.sum y (atoms s) i c.add-scope-sum.ensures few (atoms_few s) c.loop-i.invariant.2 in
+    let u = small c.loop-i.sum y (atoms s) i c.add_scope-sum.ensures few (atoms_few s) c.loop-i.invariant.2 in
     value_number y false (num y) (den y) u.value
 
 pub returns-then-k-path : goal.returns-then-k-path
@@ -36,13 +36,13 @@ returns-then-k-path c =
     let k = c.loop-i.k in
     let i = c.loop-i.i in
     let x = c.loop-i.sum in
-    let y = c.add-scope-sum.result in
+    let y = c.add_scope-sum.result in
     let s = get_or path k blank in
-    let e : y ≡ plus x (atoms s) i = c.add-scope-sum.ensures in
+    let e : y ≡ plus x (atoms s) i = c.add_scope-sum.ensures in
     let h : 0 < length path = omega arith in
     sym (add_all y path (drop (i + 1) stack) (k + 1) (i + 1) c.if-k-path.true)
     ∙ ap (λ (z : Float). rest z (drop (k + 1) path) (drop (i + 1) stack) (i + 1)) e
-    ∙ add_here x path stack k i c.loop-i.invariant.0 c.loop-i-test.true (sym c.if-fits-at.ensures)
+    ∙ add_here x path stack k i c.loop-i.invariant.0 c.loop-i-test.true (sym c.if-fits_at.ensures)
     ∙ c.loop-i.invariant.1
     ∙ add_whole_path path stack h
 
@@ -55,24 +55,24 @@ loop-i-preserved c =
     let x = c.loop-i.sum in
     let s = get_or path k blank in
     let few : i < 64 = omega arith in
-    elim c.if-fits-at.branch [
-      | then-fits-at+else-k-path w ↦
-          let y = w.add-scope-sum.result in
-          let e : y ≡ plus x (atoms s) i = w.add-scope-sum.ensures in
-          let f : c.if-fits-at.sum ≡ plus x (atoms s) i = w.sum-is ∙ e in
-          let lt : c.if-fits-at.k < length path = omega (arith, w.k-is, w.if-k-path.false, c.loop-i.invariant.0) in (
+    elim c.if-fits_at.branch [
+      | then-fits_at+else-k-path w ↦
+          let y = w.add_scope-sum.result in
+          let e : y ≡ plus x (atoms s) i = w.add_scope-sum.ensures in
+          let f : c.if-fits_at.sum ≡ plus x (atoms s) i = w.sum-is ∙ e in
+          let lt : c.if-fits_at.k < length path = omega (arith, w.k-is, w.if-k-path.false, c.loop-i.invariant.0) in (
             lt,
-            ap (λ (z : Float). rest z (drop c.if-fits-at.k path) (drop (i + 1) stack) (i + 1)) f
+            ap (λ (z : Float). rest z (drop c.if-fits_at.k path) (drop (i + 1) stack) (i + 1)) f
                 ∙ ap (λ (z : ℕ). rest (plus x (atoms s) i) (drop z path) (drop (i + 1) stack) (i + 1)) w.k-is
-                ∙ add_here x path stack k i c.loop-i.invariant.0 c.loop-i-test.true (sym w.if-fits-at.ensures)
+                ∙ add_here x path stack k i c.loop-i.invariant.0 c.loop-i-test.true (sym w.if-fits_at.ensures)
                 ∙ c.loop-i.invariant.1,
-            rw add-one (small x c.if-fits-at.sum (atoms s) i f few (atoms_few s) c.loop-i.invariant.2),
+            rw add-one (small x c.if-fits_at.sum (atoms s) i f few (atoms_few s) c.loop-i.invariant.2),
           )
-      | else-fits-at w ↦ (
+      | else-fits_at w ↦ (
         subst (λ (z : ℕ). z < length path) (sym w.k-is) c.loop-i.invariant.0,
-        ap (λ (z : Float). rest z (drop c.if-fits-at.k path) (drop (i + 1) stack) (i + 1)) w.sum-is
+        ap (λ (z : Float). rest z (drop c.if-fits_at.k path) (drop (i + 1) stack) (i + 1)) w.sum-is
             ∙ ap (λ (z : ℕ). rest x (drop z path) (drop (i + 1) stack) (i + 1)) w.k-is
-            ∙ add_later x path stack k i c.loop-i.invariant.0 c.loop-i-test.true (sym w.if-fits-at.ensures)
+            ∙ add_later x path stack k i c.loop-i.invariant.0 c.loop-i-test.true (sym w.if-fits_at.ensures)
             ∙ c.loop-i.invariant.1,
         subst (λ (z : Float). Under (i + 1) z) (sym w.sum-is) (under_more i (i + 1) x (omega arith) c.loop-i.invariant.2),
       )

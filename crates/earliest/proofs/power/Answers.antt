@@ -3,8 +3,8 @@ use lib.Ieee.{binary64, of_bits}
 use Rattle.earliest.specs.Doubles.{power_of_bits, up_to_infinity}
 use Rattle.earliest.proofs.power.Goals as goal
 
-pub float-from-bits-result : goal.float-from-bits-result
-float-from-bits-result c = up_to_infinity binary64 c.power-bits.result (omega arith)
+pub float_from_bits-result : goal.float_from_bits-result
+float_from_bits-result c = up_to_infinity binary64 c.power_bits.result (omega arith)
 
 pub returns : goal.returns
-returns c = ap (of_bits binary64) c.power-bits.ensures ∙ power_of_bits (3 * c.args.position) (omega arith)
+returns c = ap (of_bits binary64) c.power_bits.ensures ∙ power_of_bits (3 * c.args.position) (omega arith)
