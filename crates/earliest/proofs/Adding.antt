@@ -1,6 +1,7 @@
 -- A turn of the loop that lays a path and adds its terms.
 use Rattle.std.proofs.Common.{◌≡◌, ℕ, ◌+◌, ◌<◌, ◌≤◌, true, false, List, [], ◌∷◌, length, get_or, drop, Some, None, Option, sym, refl, ap, ◌∙◌, arith}
-use lib.Ieee.{Float, binary64, to_bits}
+use Rattle.std.specs.Prelude.{to_bits, Float}
+use Rattle.std.specs.Float.{binary64}
 use Rattle.std.proofs.lemmas.List.{drop_more}
 use Rattle.scopes.specs.declared.scope.Scope.{Scope}
 use Rattle.scopes.specs.Scopes.{begins}

@@ -1,5 +1,6 @@
 use Rattle.std.proofs.Common.{not, T, sym, ap, subst}
-use lib.Ieee.{Float, binary64, is_nan, to_bits}
+use Rattle.std.specs.Prelude.{is_nan, to_bits, Float}
+use Rattle.std.specs.Float.{binary64}
 use Rattle.earliest.specs.Doubles.{term_number, term_value}
 use Rattle.earliest.proofs.lone_bits.Goals as goal
 

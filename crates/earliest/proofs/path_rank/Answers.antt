@@ -1,6 +1,6 @@
 use Rattle.std.proofs.Common.{◌≡◌, ℕ, suc, ◌+◌, ◌<◌, ◌≤◌, false, length, get_or, drop, sym, ap, ◌∙◌, subst, add-one, arith}
-use lib.Ieee.{Float}
-use lib.Ieee.Positive.{num, den}
+use Rattle.std.specs.Prelude.{Float}
+use Rattle.std.specs.Float.Ieee.Positive.{num, den}
 use Rattle.rankings.specs.Layings.{atoms, blank}
 use Rattle.earliest.specs.Scores.{plus}
 use Rattle.rankings.proofs.Atoms.{atoms_few}

@@ -1,5 +1,6 @@
 use Rattle.std.proofs.Common.{◌*◌, ap, ◌∙◌, arith}
-use lib.Ieee.{binary64, of_bits}
+use Rattle.std.specs.Float.{binary64}
+use Rattle.std.specs.Float.Ieee.{of_bits}
 use Rattle.earliest.specs.Doubles.{power_of_bits, up_to_infinity}
 use Rattle.earliest.proofs.power.Goals as goal
 
