@@ -199,11 +199,11 @@ pub struct Deepest;
 impl Ranking for Deepest {
     type Rank = Digits;
 
-    ghost loneRank = { lone_digits };
+    ghost lone_rank = { lone_digits };
 
-    ghost pathRank = { path_digits };
+    ghost path_rank = { path_digits };
 
-    ghost notAbove = { λ x y. nat_le (value x) (value y) };
+    ghost not_above = { λ x y. nat_le (value x) (value y) };
 
     ghost answers = { λ p stack h. BestLaws.answers p stack };
 

@@ -46,10 +46,10 @@ pat_mono a b h =
     ]
 
 -- a double in units of the smallest one
-abbrev pub inUnits : Float → ℕ
-inUnits x = num x * 2 ^ 1074 / den x
+abbrev pub in_units : Float → ℕ
+in_units x = num x * 2 ^ 1074 / den x
 
-pub bits_are : (x : Float) → T (unsigned x) → to_bits binary64 x ≡ pat (inUnits x)
+pub bits_are : (x : Float) → T (unsigned x) → to_bits binary64 x ≡ pat (in_units x)
 unfolding to_bits
 bits_are nan p = absurd p
 bits_are (inf s) p = absurd p
@@ -96,14 +96,14 @@ unsigned_of_value (inf s) a c h = absurd h
 unsigned_of_value (fin true m e) a c h = absurd (true≢false h.0)
 unsigned_of_value (fin false m e) a c h = tt
 
-units_mono : (x y : Float) → num x * den y ≤ num y * den x → inUnits x ≤ inUnits y
+units_mono : (x y : Float) → num x * den y ≤ num y * den x → in_units x ≤ in_units y
 units_mono x y h =
     div_mono (num x * 2 ^ 1074) (den x) (num y * 2 ^ 1074) (den y) (den_pos x) (den_pos y)
     (le_trans (le_of_eq (mul_right_comm (num x) (2 ^ 1074) (den y))) (le_trans (mul-le-mul_right (2 ^ 1074) h) (le_of_eq (mul_right_comm (num y) (den x) (2 ^ 1074)))))
 
 pub bits_mono : (x y : Float) → T (unsigned x) → T (unsigned y) → T (le x y) → to_bits binary64 x ≤ to_bits binary64 y
 bits_mono x y p q h =
-    le_trans (le_of_eq (bits_are x p)) (le_trans (pat_mono (inUnits x) (inUnits y) (units_mono x y (le→cross x y p q h))) (le_of_eq (sym (bits_are y q))))
+    le_trans (le_of_eq (bits_are x p)) (le_trans (pat_mono (in_units x) (in_units y) (units_mono x y (le→cross x y p q h))) (le_of_eq (sym (bits_are y q))))
 
 pub bits_one : (x y : Float) → T (fits binary64 x) → T (fits binary64 y) → to_bits binary64 x ≡ to_bits binary64 y → x ≡ y
 bits_one x y p q e = sym (of_bits-to_bits binary64 x p) ∙ ap (from_bits binary64) e ∙ of_bits-to_bits binary64 y q

@@ -152,11 +152,11 @@ pub struct Earliest;
 impl Ranking for Earliest {
     type Rank = u64;
 
-    ghost loneRank = { lone_rank };
+    ghost lone_rank = { lone_rank };
 
-    ghost pathRank = { path_rank };
+    ghost path_rank = { path_rank };
 
-    ghost notAbove = { leb };
+    ghost not_above = { leb };
 
     ghost answers = { RankingLaws.answers };
 

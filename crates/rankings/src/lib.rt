@@ -13,36 +13,36 @@ pub trait Ranking {
     type Rank: Copy;
 
     // The rank of a scope of so many atoms that fits at a position, for 1 to 8 atoms and the positions 0 to 63.
-    ghost loneRank: { ℕ → ℕ → Self.Rank };
+    ghost lone_rank: { ℕ → ℕ → Self.Rank };
 
     // The rank of a path on a stack, if it can be laid.
-    ghost pathRank: { List Scope → List Scope → Option Self.Rank };
+    ghost path_rank: { List Scope → List Scope → Option Self.Rank };
 
     // Whether one rank is not above another.
-    ghost notAbove: { Self.Rank → Self.Rank → Bool };
+    ghost not_above: { Self.Rank → Self.Rank → Bool };
 
     // Values outside 1 to 8 atoms and the positions 0 to 63 are taken as the nearest inside.
     fn lone(atoms: u32, position: usize) -> Self::Rank
-        ensures { result ≡ loneRank (near_atoms atoms) (near_position position) };
+        ensures { result ≡ lone_rank (near_atoms atoms) (near_position position) };
 
     // Only the lowest 64 scopes of the stack count.
     fn path(path: &[Scope], stack: &[Scope]) -> Option<Self::Rank>
-        ensures { result ≡ pathRank path.now (take 64 stack.now) };
+        ensures { result ≡ path_rank path.now (take 64 stack.now) };
 
     fn not_above(a: Self::Rank, b: Self::Rank) -> bool
-        ensures { result ≡ notAbove a b };
+        ensures { result ≡ not_above a b };
 
-    ghost answers: { (p stack : List Scope) → length stack ≤ 64 → Answers p stack (pathRank p stack) };
+    ghost answers: { (p stack : List Scope) → length stack ≤ 64 → Answers p stack (path_rank p stack) };
 
-    ghost total: { (x y : Self.Rank) → Answered loneRank pathRank x → Answered loneRank pathRank y → notAbove x y ≡ false → notAbove y x ≡ true };
+    ghost total: { (x y : Self.Rank) → Answered lone_rank path_rank x → Answered lone_rank path_rank y → not_above x y ≡ false → not_above y x ≡ true };
 
-    ghost transitive: { (x y z : Self.Rank) → Answered loneRank pathRank x → Answered loneRank pathRank y → Answered loneRank pathRank z → notAbove x y ≡ true → notAbove y z ≡ true → notAbove x z ≡ true };
+    ghost transitive: { (x y z : Self.Rank) → Answered lone_rank path_rank x → Answered lone_rank path_rank y → Answered lone_rank path_rank z → not_above x y ≡ true → not_above y z ≡ true → not_above x z ≡ true };
 
-    ghost longer: { (n m i : ℕ) → Lone n i → Lone m i → n < m → notAbove (loneRank m i) (loneRank n i) ≡ false };
+    ghost longer: { (n m i : ℕ) → Lone n i → Lone m i → n < m → not_above (lone_rank m i) (lone_rank n i) ≡ false };
 
-    ghost deeper: { (n m i j : ℕ) → Lone n i → Lone m j → i < j → notAbove (loneRank n i) (loneRank m j) ≡ true };
+    ghost deeper: { (n m i j : ℕ) → Lone n i → Lone m j → i < j → not_above (lone_rank n i) (lone_rank m j) ≡ true };
 
-    ghost single: { (s : Scope) (stack : List Scope) (r : Self.Rank) → length stack ≤ 64 → 1 ≤ atoms s → pathRank (s ∷ []) stack ≡ Some r → ((i : ℕ) × FitsAt s stack i × (r ≡ loneRank (atoms s) i)) };
+    ghost single: { (s : Scope) (stack : List Scope) (r : Self.Rank) → length stack ≤ 64 → 1 ≤ atoms s → path_rank (s ∷ []) stack ≡ Some r → ((i : ℕ) × FitsAt s stack i × (r ≡ lone_rank (atoms s) i)) };
 }
 
 // One of a path's scopes as it is laid: its atoms, and its position on the stack.
