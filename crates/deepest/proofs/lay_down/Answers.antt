@@ -35,9 +35,9 @@ loop-height-preserved-then-fits c =
     let k = c.loop-height.left in
     let inv = c.loop-height.invariant.0 in
     let g = taken path c.args.stack.now i k inv.0 c.loop-height-test.true c.if-left-gt0.true inv.1 c.if-fits.ensures in
-    let x = c.laid-at.result in
+    let x = c.laid_at.result in
     let is : x ≡ record { atoms = atoms (get_or path (k - 1) blank); position = i - 1 } =
-    λ t. record { atoms = c.laid-at.ensures.atoms t; position = c.laid-at.ensures.position t } in
+    λ t. record { atoms = c.laid_at.ensures.atoms t; position = c.laid_at.ensures.position t } in
     let more = taken_scopes path (i - 1) k inv.0 c.if-left-gt0.true inv.1.within in
     let b : length path ≤ length c.loop-height.laid = omega (arith, c.loop-height.invariant.1) in
     let put = set_before c.loop-height.laid k (length path) x c.if-left-gt0.true inv.1.within b in

@@ -22,8 +22,8 @@ room c =
     let l : place c < 16 = omega arith in
     room_take c.args.index c.args.word c.args.digit c.args.position (place c) (after c) c.requires.0 e l c.requires.1.1.1 (exact c)
 
-pub overflow-add-result : goal.overflow-add-result
-overflow-add-result c = omega (arith, room_word c.args.index (after c) c.args.position (room c))
+pub overflow_add-result : goal.overflow_add-result
+overflow_add-result c = omega (arith, room_word c.args.index (after c) c.args.position (room c))
 
 pub returns : goal.returns
 returns c =

@@ -14,7 +14,7 @@ pub loop-height-init : goal.loop-height-init
 loop-height-init c =
     let path = c.args.path.now in
     let none : worth (drop (length path) path) [] ≡ 0 = ap (λ (ps : List Scope). worth ps []) (drop_of_length-le path (omega arith)) in
-    (([], start path c.args.stack.now, c.blank-digits-rank.ensures.value ∙ sym none), c.blank-digits-rank.ensures.room (length c.args.stack.now))
+    (([], start path c.args.stack.now, c.blank_digits-rank.ensures.value ∙ sym none), c.blank_digits-rank.ensures.room (length c.args.stack.now))
 
 pub loop-height-preserved-then-fits : goal.loop-height-preserved-then-fits
 loop-height-preserved-then-fits c =
@@ -24,9 +24,9 @@ loop-height-preserved-then-fits c =
     let inv = c.loop-height.invariant.0 in
     let g = taken path c.args.stack.now i k inv.0 c.loop-height-test.true c.if-left-gt0.true inv.1 c.if-fits.ensures in
     let more = taken_worth path (i - 1) k inv.0 c.if-left-gt0.true inv.1.within in
-    let n : c.laid-at.result.atoms * 2 ^ (4 * (i - 1)) ≡ atoms (get_or path (k - 1) blank) * 2 ^ (4 * (i - 1)) =
-    ap (λ (m : ℕ). m * 2 ^ (4 * (i - 1))) c.laid-at.ensures.atoms in
-    (((i - 1) ∷ inv.0, g, omega (arith, c.with-digit-rank.ensures.value, inv.2, more, n)), c.with-digit-rank.ensures.room)
+    let n : c.laid_at.result.atoms * 2 ^ (4 * (i - 1)) ≡ atoms (get_or path (k - 1) blank) * 2 ^ (4 * (i - 1)) =
+    ap (λ (m : ℕ). m * 2 ^ (4 * (i - 1))) c.laid_at.ensures.atoms in
+    (((i - 1) ∷ inv.0, g, omega (arith, c.with_digit-rank.ensures.value, inv.2, more, n)), c.with_digit-rank.ensures.room)
 
 pub loop-height-preserved : goal.loop-height-preserved
 loop-height-preserved c =
