@@ -1,7 +1,7 @@
 -- `best` is the highest worth among all layings, and there is one highest. From that, the laws of a ranking.
 use Rattle.std.specs.Prelude.{◌≡◌, ℕ, zero, suc, ◌+◌, ◌-◌, ◌*◌, ◌^◌, ◌<◌, ◌≤◌, max, Bool, true, false, cond, ◌⊎◌, List, [], ◌∷◌, length, drop, Some, None, Option, ◌≢◌, nat_le, slice_index_or, refl}
 use Rattle.std.proofs.Common.{sym, ap, ◌∙◌, subst, true≢false, inl, inr, le_refl, le_trans, le_of_eq, le_antisymm, eq-or-lt_of_le, eq-zero-or-pos, mul-le-mul_right, suc-mul, arith, le-leb, pow_pos, pow_mono, pow-add, drop_of_length-le, drop-cons}
-use Rattle.std.proofs.lemmas.Bool.{lt-leb}
+use Rattle.std.proofs.lemmas.Bool.{leb-false, leb-true, lt-leb}
 use Rattle.std.specs.Option.{option_map}
 use Rattle.scopes.specs.declared.scope.Scope.{Scope}
 use Rattle.scopes.specs.Scopes.{begins}
@@ -164,6 +164,17 @@ answers (p ∷ ps) st = go (best (p ∷ ps) st 0) (best_highest (p ∷ ps) st)
     go : (o : Option ℕ) → HighOf (Lays st 0 (p ∷ ps)) (worth (p ∷ ps)) o → Answers (p ∷ ps) st (option_map digits o)
     go None h = λ n l. h l.0 l.1
     go (Some v) h = (some_scopes p ps, (h.0.0, h.0.1))
+
+pub total : (x y : Digits) → nat_le (value x) (value y) ≡ false → nat_le (value y) (value x) ≡ true
+total x y e =
+    let h : value y < value x = leb-false (value x) (value y) e in
+    le-leb (value y) (value x) (omega arith)
+
+pub transitive : (x y z : Digits) → nat_le (value x) (value y) ≡ true → nat_le (value y) (value z) ≡ true → nat_le (value x) (value z) ≡ true
+transitive x y z e f =
+    let h : value x ≤ value y = leb-true (value x) (value y) e in
+    let k : value y ≤ value z = leb-true (value y) (value z) f in
+    le-leb (value x) (value z) (le_trans h k)
 
 pub longer : (n m i : ℕ) → n < m → nat_le (value (lone_digits m i)) (value (lone_digits n i)) ≡ false
 longer n m i h =

@@ -6,5 +6,7 @@ pub mod Best
 pub mod Manual
 -- Tops: a laying that is worth the most.
 pub mod Tops
+-- BestLaws: `best` is the highest worth among all layings, and the laws of a ranking.
 pub mod BestLaws
+-- Rooms: digits of four bits in a word.
 pub mod Rooms

@@ -11,7 +11,6 @@ ghost use Rattle.deepest.specs.Best.{BestIsHighest, Highest, path_digits};
 ghost use Rattle.deepest.specs.Manual.{Manual};
 ghost use Rattle.deepest.specs.Tops.{LaidTop};
 ghost use Rattle.deepest.specs.BestLaws;
-ghost use Rattle.std.proofs.Common.{rules};
 
 use rankings::{Laid, Places, Ranking, lowest, near_atoms, near_position};
 use scopes::Scope;
@@ -207,9 +206,9 @@ impl Ranking for Deepest {
 
     ghost answers = { λ p stack h. BestLaws.answers p stack };
 
-    ghost total = { Prim.search rules };
+    ghost total = { λ x y a b. BestLaws.total x y };
 
-    ghost transitive = { Prim.search rules };
+    ghost transitive = { λ x y z a b d. BestLaws.transitive x y z };
 
     ghost longer = { λ n m i a b. BestLaws.longer n m i };
 
