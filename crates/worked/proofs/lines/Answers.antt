@@ -8,22 +8,22 @@ pub returns : goal.returns
 unfolding atoms_in fields_in round add to_bits of_int
 returns c = record {
   table = record {
-    empty-clear = refl;
-    three-earliest = refl;
-    three-deepest = refl;
-    plain-string = refl;
-    plain-formula = refl;
-    nested-string = refl;
-    nested-formula = refl;
-    nested-deepest = refl;
-    nested-higher = refl;
-    eight-atoms = refl;
-    one-atom = refl;
-    one-higher = refl;
-    rounded-one = refl;
-    rounded-two = rounded;
-    unrounded-one = refl;
-    unrounded-two = refl;
+    empty_clear = refl;
+    three_earliest = refl;
+    three_deepest = refl;
+    plain_string = refl;
+    plain_formula = refl;
+    nested_string = refl;
+    nested_formula = refl;
+    nested_deepest = refl;
+    nested_higher = refl;
+    eight_atoms = refl;
+    one_atom = refl;
+    one_higher = refl;
+    rounded_one = refl;
+    rounded_two = rounded;
+    unrounded_one = refl;
+    unrounded_two = refl;
   };
   count = refl;
 }
