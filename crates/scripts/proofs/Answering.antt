@@ -6,13 +6,13 @@ use Rattle.std.specs.List.{AllByRecursion}
 use Rattle.std.specs.Str.{bytes_eq}
 use Rattle.std.proofs.lemmas.Slice.Eq.{bytes_eq-Decides}
 use Rattle.std.proofs.lemmas.Bool.{cases_Bool, and_from, and_parts, or_from, cond-true, cond-false, lt-ltb, ltb-true, le-leb, leb-true, eq-eqb, ne_eqb}
-use Rattle.stacks.specs.declared.ops.ClearAmount.TheVariants.{TopN, All as Whole-stack}
+use Rattle.stacks.specs.declared.ops.ClearAmount.TheVariants.{TopN, All as WholeStack}
 use Rattle.scripts.specs.declared.directives.Directive.{Directive}
 use Rattle.scripts.specs.declared.directives.Directive.TheVariants.{Nothing, Theme, Stack, Line, Change}
 use Rattle.scripts.specs.declared.directives.Action.{Action}
 use Rattle.scripts.specs.declared.directives.Action.TheVariants.{Push, Pop, Clear, Restore, Noop}
 use Rattle.scripts.specs.declared.directives.Expected.{Expected}
-use Rattle.scripts.specs.declared.directives.Expected.TheVariants.{Directive as A-directive, Number as A-number, Operation as An-operation, Name as A-name, Count as A-count, Amount as An-amount, End as The-end}
+use Rattle.scripts.specs.declared.directives.Expected.TheVariants.{Directive as ADirective, Number as ANumber, Operation as AnOperation, Name as AName, Count as ACount, Amount as AnAmount, End as TheEnd}
 use Rattle.scripts.specs.declared.directives.Fault.{Fault}
 use Rattle.scripts.specs.Words.{Word, Found}
 use Rattle.scripts.specs.Numbers.{Number, NoNumber}
@@ -76,23 +76,23 @@ module _ (position size : ℕ) where
   -- behind an action
   abbrev by_end : Deed → List ℕ → List ℕ → Answer
   by_end d [] rest = says_change position d
-  by_end d (b ∷ bs) rest = goes_wrong (place size (b ∷ bs) rest) The-end
+  by_end d (b ∷ bs) rest = goes_wrong (place size (b ∷ bs) rest) TheEnd
 
   abbrev ending : Deed → List ℕ → Answer
   ending d text = by_end d (first_of text) (rest_of text)
 
   -- behind `push`, `pop` and `clear`
   abbrev by_name : List ℕ → List ℕ → Answer
-  by_name [] rest = goes_wrong (place size [] rest) A-name
+  by_name [] rest = goes_wrong (place size [] rest) AName
   by_name (b ∷ bs) rest = ending (pushes (b ∷ bs)) rest
 
   abbrev by_count : List ℕ → List ℕ → Answer
-  by_count w rest = cond (is_number w) (ending (pops (digits_value 10 w)) rest) (goes_wrong (place size w rest) A-count)
+  by_count w rest = cond (is_number w) (ending (pops (digits_value 10 w)) rest) (goes_wrong (place size w rest) ACount)
 
   abbrev by_amount : List ℕ → List ℕ → Answer
   by_amount w rest =
-      cond (bytes_eq w all_word) (ending (clears Whole-stack) rest)
-      (cond (is_number w) (ending (clears (TopN (digits_value 10 w))) rest) (goes_wrong (place size w rest) An-amount))
+      cond (bytes_eq w all_word) (ending (clears WholeStack) rest)
+      (cond (is_number w) (ending (clears (TopN (digits_value 10 w))) rest) (goes_wrong (place size w rest) AnAmount))
 
   abbrev by_verb : List ℕ → List ℕ → Answer
   by_verb w rest =
@@ -100,7 +100,7 @@ module _ (position size : ℕ) where
       (cond (bytes_eq w pop_word) (by_count (first_of rest) (rest_of rest))
       (cond (bytes_eq w clear_word) (by_amount (first_of rest) (rest_of rest))
       (cond (bytes_eq w restore_word) (ending restores rest)
-      (cond (bytes_eq w noop_word) (ending rests rest) (goes_wrong (place size w rest) An-operation)))))
+      (cond (bytes_eq w noop_word) (ending rests rest) (goes_wrong (place size w rest) AnOperation)))))
 
   abbrev acting : List ℕ → Answer
   acting text = by_verb (first_of text) (rest_of text)
@@ -109,7 +109,7 @@ module _ (position size : ℕ) where
   name_some [] rest h = absurd (h refl)
   name_some (b ∷ bs) rest h = refl
 
-  end_some : (d : Deed) (w rest : List ℕ) → (w ≡ [] → ⊥) → by_end d w rest ≡ goes_wrong (place size w rest) The-end
+  end_some : (d : Deed) (w rest : List ℕ) → (w ≡ [] → ⊥) → by_end d w rest ≡ goes_wrong (place size w rest) TheEnd
   end_some d [] rest h = absurd (h refl)
   end_some d (b ∷ bs) rest h = refl
 
@@ -131,7 +131,7 @@ module _ (position size : ℕ) where
       at_word by_verb text pop_word h.behind h.word ∙ at_word by_count h.behind h.digits rest h.counted ∙ count_is h.digits rest n h.number
   acts_is text (Clear (TopN n)) rest h =
       at_word by_verb text clear_word h.behind h.word ∙ at_word by_amount h.behind h.digits rest h.counted ∙ amount_is h.digits rest n h.number
-  acts_is text (Clear Whole-stack) rest h =
+  acts_is text (Clear WholeStack) rest h =
       at_word by_verb text clear_word h.behind h.word ∙ at_word by_amount h.behind all_word rest h.all
   acts_is text Restore rest h = at_word by_verb text restore_word rest h
   acts_is text Noop rest h = at_word by_verb text noop_word rest h
@@ -142,34 +142,34 @@ module _ (position size : ℕ) where
   wrong : (e : Expected) (text w rest : List ℕ) (at : ℕ) → Found size text w rest at → goes_wrong (place size w rest) e ≡ goes_wrong at e
   wrong e text w rest at h = ap (λ n. goes_wrong n e) (place_is size text w rest at h)
 
-  verb_unknown : (w rest : List ℕ) → NoOperation w → by_verb w rest ≡ goes_wrong (place size w rest) An-operation
+  verb_unknown : (w rest : List ℕ) → NoOperation w → by_verb w rest ≡ goes_wrong (place size w rest) AnOperation
   verb_unknown w rest h =
       cond-false _ _ _ (same_false w push_word h.push) ∙ cond-false _ _ _ (same_false w pop_word h.pop) ∙ cond-false _ _ _ (same_false w clear_word h.clear) ∙ cond-false _ _ _ (same_false w restore_word h.restore) ∙ cond-false _ _ _ (same_false w noop_word h.noop)
 
   misses_is : (text : List ℕ) (at : ℕ) (e : Expected) → Misses size text at e → acting text ≡ goes_wrong at e
-  misses_is text at A-directive h = absurd h
-  misses_is text at A-number h = absurd h
-  misses_is text at An-operation h =
-      at_word by_verb text h.w h.rest h.found.word ∙ verb_unknown h.w h.rest h.unknown ∙ wrong An-operation text h.w h.rest at h.found
-  misses_is text at A-name h =
-      at_word by_verb text push_word h.behind h.word ∙ at_word by_name h.behind [] [] h.found.word ∙ wrong A-name h.behind [] [] at h.found
-  misses_is text at A-count h =
-      at_word by_verb text pop_word h.behind h.word ∙ at_word by_count h.behind h.w h.rest h.found.word ∙ cond-false _ _ _ (number_false h.w h.uncounted) ∙ wrong A-count h.behind h.w h.rest at h.found
-  misses_is text at An-amount h =
-      at_word by_verb text clear_word h.behind h.word ∙ at_word by_amount h.behind h.w h.rest h.found.word ∙ cond-false _ _ _ (same_false h.w all_word h.not_all) ∙ cond-false _ _ _ (number_false h.w h.uncounted) ∙ wrong An-amount h.behind h.w h.rest at h.found
-  misses_is text at The-end h =
-      acts_is text h.action h.behind h.acts ∙ at_word (by_end (deed h.action)) h.behind h.w h.rest h.found.word ∙ end_some (deed h.action) h.w h.rest h.some ∙ wrong The-end h.behind h.w h.rest at h.found
+  misses_is text at ADirective h = absurd h
+  misses_is text at ANumber h = absurd h
+  misses_is text at AnOperation h =
+      at_word by_verb text h.w h.rest h.found.word ∙ verb_unknown h.w h.rest h.unknown ∙ wrong AnOperation text h.w h.rest at h.found
+  misses_is text at AName h =
+      at_word by_verb text push_word h.behind h.word ∙ at_word by_name h.behind [] [] h.found.word ∙ wrong AName h.behind [] [] at h.found
+  misses_is text at ACount h =
+      at_word by_verb text pop_word h.behind h.word ∙ at_word by_count h.behind h.w h.rest h.found.word ∙ cond-false _ _ _ (number_false h.w h.uncounted) ∙ wrong ACount h.behind h.w h.rest at h.found
+  misses_is text at AnAmount h =
+      at_word by_verb text clear_word h.behind h.word ∙ at_word by_amount h.behind h.w h.rest h.found.word ∙ cond-false _ _ _ (same_false h.w all_word h.not_all) ∙ cond-false _ _ _ (number_false h.w h.uncounted) ∙ wrong AnAmount h.behind h.w h.rest at h.found
+  misses_is text at TheEnd h =
+      acts_is text h.action h.behind h.acts ∙ at_word (by_end (deed h.action)) h.behind h.w h.rest h.found.word ∙ end_some (deed h.action) h.w h.rest h.some ∙ wrong TheEnd h.behind h.w h.rest at h.found
 
 -- the first word
 module _ (size : ℕ) where
   abbrev by_change : List ℕ → List ℕ → Answer
-  by_change w rest = cond (is_number w) (acting (digits_value 10 w) size rest) (goes_wrong (place size w rest) A-number)
+  by_change w rest = cond (is_number w) (acting (digits_value 10 w) size rest) (goes_wrong (place size w rest) ANumber)
 
   abbrev by_keyword : List ℕ → List ℕ → Answer
   by_keyword w rest =
       cond (bytes_eq w foreground_word || (bytes_eq w background_word || bytes_eq w rule_word)) says_theme
       (cond (bytes_eq w stack_word) (says_stack rest)
-      (cond (bytes_eq w line_word) (says_line (drop 1 rest)) (goes_wrong (place size w rest) A-directive)))
+      (cond (bytes_eq w line_word) (says_line (drop 1 rest)) (goes_wrong (place size w rest) ADirective)))
 
   abbrev by_first : List ℕ → List ℕ → Answer
   by_first [] rest = says_nothing
@@ -195,7 +195,7 @@ module _ (size : ℕ) where
   no_digit : (b : ℕ) → (IsInRange 48 57 b → ⊥) → digit b ≡ false
   no_digit b h = ⊎_elim (λ e. absurd (h (digit_in b e))) (λ e. e) (cases_Bool (digit b))
 
-  unknown_is : (w rest : List ℕ) → NoOpening w → by_first w rest ≡ goes_wrong (place size w rest) A-directive
+  unknown_is : (w rest : List ℕ) → NoOpening w → by_first w rest ≡ goes_wrong (place size w rest) ADirective
   unknown_is [] rest h = absurd (h.some refl)
   unknown_is (b ∷ bs) rest h =
       let w = b ∷ bs in
@@ -236,15 +236,15 @@ breaks_is line at e (position, h) =
     here line h.w h.rest h.word ∙ number_is (length line) h.w h.rest position h.number ∙ misses_is position (length line) h.rest at e h.behind
 
 fails_is : (line : List ℕ) (at : ℕ) (e : Expected) → Fails line at e → the_answer line ≡ goes_wrong at e
-fails_is line at A-directive h =
-    here line h.w h.rest h.found.word ∙ unknown_is (length line) h.w h.rest h.is ∙ ap (λ n. goes_wrong n A-directive) (place_is (length line) line h.w h.rest at h.found)
-fails_is line at A-number h =
-    here line h.w h.rest h.found.word ∙ digit_is (length line) h.w h.rest h.is.0 ∙ cond-false _ _ _ (number_false h.w h.is.1) ∙ ap (λ n. goes_wrong n A-number) (place_is (length line) line h.w h.rest at h.found)
-fails_is line at An-operation h = breaks_is line at An-operation h
-fails_is line at A-name h = breaks_is line at A-name h
-fails_is line at A-count h = breaks_is line at A-count h
-fails_is line at An-amount h = breaks_is line at An-amount h
-fails_is line at The-end h = breaks_is line at The-end h
+fails_is line at ADirective h =
+    here line h.w h.rest h.found.word ∙ unknown_is (length line) h.w h.rest h.is ∙ ap (λ n. goes_wrong n ADirective) (place_is (length line) line h.w h.rest at h.found)
+fails_is line at ANumber h =
+    here line h.w h.rest h.found.word ∙ digit_is (length line) h.w h.rest h.is.0 ∙ cond-false _ _ _ (number_false h.w h.is.1) ∙ ap (λ n. goes_wrong n ANumber) (place_is (length line) line h.w h.rest at h.found)
+fails_is line at AnOperation h = breaks_is line at AnOperation h
+fails_is line at AName h = breaks_is line at AName h
+fails_is line at ACount h = breaks_is line at ACount h
+fails_is line at AnAmount h = breaks_is line at AnAmount h
+fails_is line at TheEnd h = breaks_is line at TheEnd h
 
 reads_is : (line : List ℕ) (r : Result Directive Fault) → Reads line r → the_answer line ≡ answer r
 reads_is line (Ok d) h = says_is line d h

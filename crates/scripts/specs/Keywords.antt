@@ -4,7 +4,7 @@ use Rattle.std.specs.Int.{IsInRange}
 use Rattle.scripts.specs.declared.keywords.Opening.{Opening}
 use Rattle.scripts.specs.declared.keywords.Opening.TheVariants.{Nothing, Theme, Stack, Line, Change, Unknown}
 use Rattle.scripts.specs.declared.keywords.Operation.{Operation}
-use Rattle.scripts.specs.declared.keywords.Operation.TheVariants.{Push, Pop, Clear, Restore, Noop, Unknown as Not-known}
+use Rattle.scripts.specs.declared.keywords.Operation.TheVariants.{Push, Pop, Clear, Restore, Noop, Unknown as NotKnown}
 
 -- the words that begin a directive
 abbrev pub foreground_word : List ℕ
@@ -89,4 +89,4 @@ Asks w Pop = w ≡ pop_word
 Asks w Clear = w ≡ clear_word
 Asks w Restore = w ≡ restore_word
 Asks w Noop = w ≡ noop_word
-Asks w Not-known = NoOperation w
+Asks w NotKnown = NoOperation w

@@ -6,7 +6,7 @@ use Rattle.scripts.specs.declared.directives.Directive.TheVariants.{Nothing, The
 use Rattle.scripts.specs.declared.directives.Action.{Action}
 use Rattle.scripts.specs.declared.directives.Action.TheVariants.{Push, Pop, Clear, Restore, Noop}
 use Rattle.scripts.specs.declared.directives.Expected.{Expected}
-use Rattle.scripts.specs.declared.directives.Expected.TheVariants.{Directive as A-directive, Number as A-number, Operation as An-operation, Name as A-name, Count as A-count, Amount as An-amount, End as The-end}
+use Rattle.scripts.specs.declared.directives.Expected.TheVariants.{Directive as ADirective, Number as ANumber, Operation as AnOperation, Name as AName, Count as ACount, Amount as AnAmount, End as TheEnd}
 use Rattle.scripts.specs.declared.directives.Fault.{Fault}
 use Rattle.scripts.specs.Words.{Word, Found}
 use Rattle.scripts.specs.Numbers.{Number, NoNumber}
@@ -92,13 +92,13 @@ pub record NoEnd (size : ℕ) (text : List ℕ) (at : ℕ) : Type 0 where
 
 -- a text that ends a line of `size` bytes is no action: at `at` something else should stand
 abbrev pub Misses : ℕ → List ℕ → ℕ → Expected → Type 0
-Misses size text at A-directive = ⊥
-Misses size text at A-number = ⊥
-Misses size text at An-operation = NoVerb size text at
-Misses size text at A-name = NoName size text at
-Misses size text at A-count = NoCount size text at
-Misses size text at An-amount = NoAmount size text at
-Misses size text at The-end = NoEnd size text at
+Misses size text at ADirective = ⊥
+Misses size text at ANumber = ⊥
+Misses size text at AnOperation = NoVerb size text at
+Misses size text at AName = NoName size text at
+Misses size text at ACount = NoCount size text at
+Misses size text at AnAmount = NoAmount size text at
+Misses size text at TheEnd = NoEnd size text at
 
 -- a line begins with a position, and what stands behind it is such
 pub record Positioned (line : List ℕ) (position : ℕ) (Behind : List ℕ → Type 0) : Type 0 where
@@ -146,13 +146,13 @@ Breaks line at expected = (position : ℕ) × Positioned line position (λ rest.
 
 -- why a line is refused, at `at`
 abbrev pub Fails : List ℕ → ℕ → Expected → Type 0
-Fails line at A-directive = FirstAt line at NoOpening
-Fails line at A-number = FirstAt line at (λ w. BeginsDigit w × NoNumber w)
-Fails line at An-operation = Breaks line at An-operation
-Fails line at A-name = Breaks line at A-name
-Fails line at A-count = Breaks line at A-count
-Fails line at An-amount = Breaks line at An-amount
-Fails line at The-end = Breaks line at The-end
+Fails line at ADirective = FirstAt line at NoOpening
+Fails line at ANumber = FirstAt line at (λ w. BeginsDigit w × NoNumber w)
+Fails line at AnOperation = Breaks line at AnOperation
+Fails line at AName = Breaks line at AName
+Fails line at ACount = Breaks line at ACount
+Fails line at AnAmount = Breaks line at AnAmount
+Fails line at TheEnd = Breaks line at TheEnd
 
 -- what `read` answers
 abbrev pub Reads : List ℕ → Result Directive Fault → Type 0

@@ -1,7 +1,7 @@
 // Numbers in decimal digits.
 ghost use Rattle.std.specs.Prelude.{◌≡◌, ◌+◌, ◌-◌, ◌*◌, ◌^◌, ◌<◌, ◌≤◌, MatchOption};
 ghost use Rattle.std.specs.Int.{IsInRange};
-ghost use Rattle.scripts.specs.Numbers.{Number, No-number};
+ghost use Rattle.scripts.specs.Numbers.{Number, NoNumber};
 
 // A number with one digit more behind it; none where the byte is no digit, or it grows too large.
 fn grown(n: usize, byte: u8) -> Option<usize>
@@ -15,7 +15,7 @@ fn grown(n: usize, byte: u8) -> Option<usize>
 
 // The number that a word writes.
 pub(crate) fn number(w: &[u8]) -> Option<usize>
-    ensures { MatchOption result (No-number w.now) (λ n. Number w.now n) }
+    ensures { MatchOption result (NoNumber w.now) (λ n. Number w.now n) }
 {
     if w.is_empty() {
         return None;

@@ -1,8 +1,8 @@
 // A line's words, read in turn.
 ghost use Rattle.std.specs.Prelude.{◌≤◌, length, IfOk, MatchResult};
-ghost use Rattle.scripts.specs.Once.{Read-once};
+ghost use Rattle.scripts.specs.Once.{ReadOnce};
 ghost use Rattle.scripts.specs.Words.{Ended, Found};
-ghost use Rattle.scripts.specs.Reads.{Acts, Behind-blank, Misses, Reads, Reads-action};
+ghost use Rattle.scripts.specs.Reads.{Acts, BehindBlank, Misses, Reads, ReadsAction};
 
 use crate::directives::{Action, Directive, Expected, Fault};
 use crate::keywords::{Opening, Operation, is, opening_of, operation_of};
@@ -109,7 +109,7 @@ fn asked(text: &[u8], size: usize) -> Result<Part<'_>, Fault>
 // The action that such a text is, with nothing behind it.
 fn action(text: &[u8], size: usize) -> Result<Action<'_>, Fault>
     requires { length text.now ≤ size }
-    ensures { Reads-action size text.now result }
+    ensures { ReadsAction size text.now result }
 {
     let part = asked(text, size)?;
     let last = next(part.rest, size);
@@ -126,7 +126,7 @@ fn action(text: &[u8], size: usize) -> Result<Action<'_>, Fault>
 // What stands behind the one blank that a text begins with.
 fn behind(text: &[u8]) -> &[u8]
     requires { Ended text.now }
-    ensures { Behind-blank text.now result.now }
+    ensures { BehindBlank text.now result.now }
 {
     if text.is_empty() { text } else { &text[1..] }
 }
@@ -161,7 +161,7 @@ fn said(line: &[u8]) -> Result<Directive<'_>, Fault>
 // What a line says, or where it goes wrong.
 pub fn read(line: &[u8]) -> Result<Directive<'_>, Fault>
     ensures reads { Reads line.now result }
-    ensures once { Read-once line.now result }
+    ensures once { ReadOnce line.now result }
 {
     said(line)
 }

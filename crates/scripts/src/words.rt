@@ -1,6 +1,6 @@
 // Words, parted by blanks.
 ghost use Rattle.std.specs.Prelude.{◌≡◌, ℕ, ◌<◌, ◌≤◌, length, ◌≢◌, slice_index};
-ghost use Rattle.scripts.specs.Words.{Word, Word-once};
+ghost use Rattle.scripts.specs.Words.{Word, WordOnce};
 
 // Where the blanks at the beginning of a text end.
 fn word_start(text: &[u8]) -> usize
@@ -35,7 +35,7 @@ fn word_end(text: &[u8], start: usize) -> usize
 // A text's first word, empty where there is none, and what stands behind it, from the blank that ends it on.
 pub fn word(text: &[u8]) -> (&[u8], &[u8])
     ensures word { Word text.now result.0.now result.1.now }
-    ensures once { Word-once text.now result.0.now result.1.now }
+    ensures once { WordOnce text.now result.0.now result.1.now }
     ensures shorter { 0 < length result.0.now → length result.1.now < length text.now }
 {
     let start = word_start(text);

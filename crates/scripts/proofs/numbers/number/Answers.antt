@@ -3,15 +3,15 @@ use borrow.Author.Tests.{eqb-false}
 use Rattle.scripts.proofs.Growing.{no_number, number_next, number_all}
 use Rattle.scripts.proofs.numbers.number.Goals as goal
 
-pub returns-in-err-n : goal.returns-in-err-n
-returns-in-err-n c =
-    rw c.from-residual.ensures (no_number c.args.w.now c.loop-b.b-index c.loop-b-test.true c.loop-b.n c.loop-b.invariant.1 c.in-err-n.ensures)
+pub returns-in_err-n : goal.returns-in_err-n
+returns-in_err-n c =
+    rw c.from_residual.ensures (no_number c.args.w.now c.loop-b.b-index c.loop-b-test.true c.loop-b.n c.loop-b.invariant.1 c.in_err-n.ensures)
 
 pub loop-b-preserved : goal.loop-b-preserved
 loop-b-preserved c =
-    number_next c.args.w.now c.loop-b.b-index c.loop-b-test.true c.loop-b.n c.in-ok-n.n c.loop-b.invariant c.in-ok-n.ensures
+    number_next c.args.w.now c.loop-b.b-index c.loop-b-test.true c.loop-b.n c.in_ok-n.n c.loop-b.invariant c.in_ok-n.ensures
 
 pub returns : goal.returns
 returns c =
-    let some = eqb-false (length c.args.w.now) 0 (sym c.if-is-empty.ensures) in
+    let some = eqb-false (length c.args.w.now) 0 (sym c.if-is_empty.ensures) in
     number_all c.args.w.now c.loop-b.b-index c.loop-b.n (omega arith) c.loop-b-test.false c.loop-b.invariant

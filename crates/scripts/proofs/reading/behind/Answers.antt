@@ -3,8 +3,8 @@ use borrow.Author.Tests.{eqb-false}
 use Rattle.std.proofs.lemmas.List.{take_rest}
 use Rattle.scripts.proofs.reading.behind.Goals as goal
 
-pub returns-else-is-empty : goal.returns-else-is-empty
-returns-else-is-empty c =
+pub returns-else-is_empty : goal.returns-else-is_empty
+returns-else-is_empty c =
     let text = c.args.text.now in
-    let some = eqb-false (length text) 0 (sym c.if-is-empty.ensures) in
+    let some = eqb-false (length text) 0 (sym c.if-is_empty.ensures) in
     ⊎_elim (λ e. absurd (some (ap length e))) (λ p. inl (p.1 ∙ ap (λ l. 32 ∷ l) (sym (ap (drop 1) p.1) ∙ sym (take_rest text 1)))) c.requires

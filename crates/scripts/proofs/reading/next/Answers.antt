@@ -2,8 +2,8 @@ use Rattle.std.proofs.Common.{arith}
 use Rattle.scripts.proofs.Cutting.{length_is}
 use Rattle.scripts.proofs.reading.next.Goals as goal
 
-pub overflow-sub-result : goal.overflow-sub-result
-overflow-sub-result c = omega (arith, length_is c.args.text.now c.word.result.0.now c.word.result.1.now c.word.ensures.word)
+pub overflow_sub-result : goal.overflow_sub-result
+overflow_sub-result c = omega (arith, length_is c.args.text.now c.word.result.0.now c.word.result.1.now c.word.ensures.word)
 
 pub returns : goal.returns
 returns c =
