@@ -43,7 +43,7 @@ impl Record for Scores {
         };
         match earliest::path(&path[0..count], &stack[0..height]) {
             Some(bits) => is_hexadecimal(answer, bits),
-            None => answer == b"none",
+            None => answer == b"none".as_slice(),
         }
     }
 }

@@ -50,14 +50,14 @@ fn are_written(repository: &ScopeRepository, scopes: &[Scope], names: &[u8]) -> 
 fn is_push(shown: &Recorded<'_>, index: usize, stack: &[Scope], scope: Scope) -> bool {
     let (verb, rest) = split(telling(shown.tellings, index), b' ');
     let (name, names) = split(rest, b' ');
-    verb == b"push"
+    verb == b"push".as_slice()
         && is_written(shown.repository, scope, name)
         && are_written(shown.repository, stack, names)
 }
 
 fn is_pop(shown: &Recorded<'_>, index: usize, stack: &[Scope]) -> bool {
     let (verb, names) = split(telling(shown.tellings, index), b' ');
-    verb == b"pop" && are_written(shown.repository, stack, names)
+    verb == b"pop".as_slice() && are_written(shown.repository, stack, names)
 }
 
 // One more where it holds.
