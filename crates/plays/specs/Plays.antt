@@ -7,7 +7,7 @@ use Rattle.repository.specs.Names.{Atoms}
 use Rattle.scripts.specs.declared.directives.Action.{Action}
 use Rattle.scripts.specs.declared.directives.Action.TheVariants.{Push, Pop, Clear, Restore, Noop}
 use Rattle.scripts.specs.declared.directives.Directive.{Directive}
-use Rattle.scripts.specs.declared.directives.Directive.TheVariants.{Nothing as Says-nothing, Theme, Stack, Line as Says-line, Change as Says-change}
+use Rattle.scripts.specs.declared.directives.Directive.TheVariants.{Nothing as SaysNothing, Theme, Stack, Line as SaysLine, Change as SaysChange}
 use Rattle.scripts.specs.Operations.{operation_of}
 use Rattle.scripts.specs.Reads.{Says}
 use Rattle.stacks.specs.declared.ops.Change.{Change}
@@ -106,11 +106,11 @@ pub record Unplayed (p q : Play) : Type 0 where
 
 -- what a directive makes of the state
 abbrev pub Played : Play → Directive → Event → Play → Type 0
-Played p Says-nothing e q = (e ≡ Nothing) × (q ≡ p)
+Played p SaysNothing e q = (e ≡ Nothing) × (q ≡ p)
 Played p Theme e q = (e ≡ Nothing) × (q ≡ p)
 Played p (Stack names) e q = Starts p e q
-Played p (Says-line text) e q = Opens p (length text.now) e q
-Played p (Says-change position action) e q = Changed p position action e q
+Played p (SaysLine text) e q = Opens p (length text.now) e q
+Played p (SaysChange position action) e q = Changed p position action e q
 
 -- a line of a script is played
 pub record Plays (p : Play) (line : List ℕ) (e : Event) (q : Play) : Type 0 where

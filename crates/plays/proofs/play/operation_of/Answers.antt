@@ -16,9 +16,9 @@ named (Clear a) held after x name e b = let z : ◌≡◌ {A = ℕ} 0 1 = cc in 
 named Restore held after x name e b = let z : ◌≡◌ {A = ℕ} 0 1 = cc in absurd (omega arith)
 named Noop held after x name e b = let z : ◌≡◌ {A = ℕ} 0 1 = cc in absurd (omega arith)
 
-pub returns-in-ok-scope : goal.returns-in-ok-scope
-returns-in-ok-scope c = record {
-  scope = c.in-ok-scope.scope;
-  named = named c.args.action _ _ c.in-ok-scope.scope c.in-Some.name c.in-Some.ensures c.in-ok-scope.ensures;
+pub returns-in_ok-scope-in-Some : goal.returns-in_ok-scope-in-Some
+returns-in_ok-scope-in-Some c = record {
+  scope = c.in_ok-scope-in-Some.scope;
+  named = named c.args.action _ _ c.in_ok-scope-in-Some.scope c.in-Some.name c.in-Some.ensures c.in_ok-scope-in-Some.ensures;
   is = c.operation.ensures;
 }

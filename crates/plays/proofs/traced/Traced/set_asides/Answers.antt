@@ -4,4 +4,4 @@ use Rattle.stacks.specs.Stacks.{stack_of}
 use Rattle.plays.proofs.traced.Traced.set_asides.Goals as goal
 
 pub returns : goal.returns
-returns c = ap length c.set-aside-sizes.ensures ∙ length-map (stack_of c.args.self.now.stack).asides length
+returns c = ap length c.set_aside_sizes.ensures ∙ length-map (stack_of c.args.self.now.stack).asides length
