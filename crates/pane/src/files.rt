@@ -28,6 +28,16 @@ impl From<AllocError> for Stopped {
     }
 }
 
+impl From<reports::Stopped> for Stopped {
+    fn from(stopped: reports::Stopped) -> Stopped {
+        match stopped {
+            reports::Stopped::Told => Stopped::Told,
+            reports::Stopped::Output => Stopped::Output,
+            reports::Stopped::Memory => Stopped::Memory,
+        }
+    }
+}
+
 fn reason(kind: ErrorKind) -> Option<&'static str> {
     match kind {
         ErrorKind::NotFound => Some("there is no such file"),

@@ -12,6 +12,26 @@ const USAGE: &str = "usage: pane names FILE
   names FILE   builds the scope names in FILE, one a line, and prints for each how many atoms it has,
                its two words and its name, or why it is refused";
 
+// The commands, all of which take one file.
+#[derive(Clone, Copy)]
+enum Command {
+    Names,
+    Outline,
+    Rank,
+}
+
+fn command_of(word: &str) -> Option<Command> {
+    if word == "names" {
+        Some(Command::Names)
+    } else if word == "outline" {
+        Some(Command::Outline)
+    } else if word == "rank" {
+        Some(Command::Rank)
+    } else {
+        None
+    }
+}
+
 // Says what is wrong with the command line, and what is right.
 fn misused(rt: &HostRuntime, what: &str, word: &str) -> Result<(), Stopped> {
     eprintln!(rt; "pane: {what}{word}")?;
@@ -29,13 +49,18 @@ fn run(rt: &HostRuntime, words: &[String]) -> Result<(), Stopped> {
         println!(rt; "{USAGE}")?;
         return Ok(());
     }
-    if command != "names" {
+    let Some(known) = command_of(command) else {
         return misused(rt, "there is no command ", command);
-    }
+    };
     if words.len() != 3 {
         return misused(rt, "one file is expected behind ", command);
     }
-    names::run(rt, words[2].as_str())
+    let file = words[2].as_str();
+    match known {
+        Command::Names => names::run(rt, file),
+        Command::Outline => Ok(outline_report::run(rt, file)?),
+        Command::Rank => Ok(rank_report::run(rt, file)?),
+    }
 }
 
 fn start(rt: &HostRuntime) -> Result<(), Stopped> {
