@@ -2,7 +2,7 @@
 use Rattle.std.proofs.Common.{◌≡◌, ℕ, ◌+◌, ◌-◌, ◌*◌, ◌^◌, ◌<◌, ◌≤◌, List, [], ◌∷◌, ◌++◌, length, get_or, take, drop, refl, ap, ◌∙◌, subst, arith}
 use Rattle.std.specs.Str.Parse.{digits_value, digits_value_after}
 use Rattle.std.specs.Int.{IsInRange}
-use Rattle.std.specs.Char.{digit_value as digitValue}
+use Rattle.std.specs.Char.{digit_value}
 use Rattle.std.specs.List.{AllByRecursion}
 use Rattle.std.proofs.lemmas.Int.Digits.{digits_value_more}
 use Rattle.std.proofs.ByRecursion.{All-get_or, All-more}
@@ -14,17 +14,17 @@ use Rattle.scripts.specs.Numbers.{Number, NoNumber}
 abbrev pub SoFar : List ℕ → ℕ → ℕ → Type 0
 SoFar w i n = AllByRecursion (IsInRange 48 57) (take i w) × (n ≡ digits_value 10 (take i w)) × (n < 2 ^ 64)
 
-digit_value : (c : ℕ) → IsInRange 48 57 c → digitValue c ≡ c - 48
-digit_value c h = grind (arith, nat_tests)
+digit_value_lem : (c : ℕ) → IsInRange 48 57 c → digit_value c ≡ c - 48
+digit_value_lem c h = grind (arith, nat_tests)
 
 -- a number is no less than what its first digits write
 after_ge : (n : ℕ) (ds : List ℕ) → n ≤ digits_value_after 10 n ds
 after_ge n [] = omega arith
-after_ge n (c ∷ cs) = omega (arith, after_ge (n * 10 + digitValue c) cs)
+after_ge n (c ∷ cs) = omega (arith, after_ge (n * 10 + digit_value c) cs)
 
 after_append : (n : ℕ) (xs ys : List ℕ) → digits_value_after 10 n (xs ++ ys) ≡ digits_value_after 10 (digits_value_after 10 n xs) ys
 after_append n [] ys = refl
-after_append n (c ∷ cs) ys = after_append (n * 10 + digitValue c) cs ys
+after_append n (c ∷ cs) ys = after_append (n * 10 + digit_value c) cs ys
 
 value_front : (i : ℕ) (w : List ℕ) → digits_value 10 (take i w) ≤ digits_value 10 w
 value_front i w =
@@ -32,7 +32,7 @@ value_front i w =
 
 module _ (w : List ℕ) (i : ℕ) (lt : i < length w) where
   value_next : IsInRange 48 57 (get_or w i 0) → digits_value 10 (take (i + 1) w) ≡ digits_value 10 (take i w) * 10 + (get_or w i 0 - 48)
-  value_next h = digits_value_more 10 w i lt ∙ ap (λ d. digits_value 10 (take i w) * 10 + d) (digit_value (get_or w i 0) h)
+  value_next h = digits_value_more 10 w i lt ∙ ap (λ d. digits_value 10 (take i w) * 10 + d) (digit_value_lem (get_or w i 0) h)
 
   pub no_number : (n : ℕ) → n ≡ digits_value 10 (take i w) → (IsInRange 48 57 (get_or w i 0) → 2 ^ 64 ≤ n * 10 + (get_or w i 0 - 48)) → NoNumber w
   no_number n is large m h =
