@@ -151,7 +151,17 @@ impl Scope {
     }
 }
 
+// Blank places of rows hold the scope of no atoms.
+impl Default for Scope {
+    ghost is_default = { λ s. atoms_in s ≡ [] };
+
+    fn default() -> Scope {
+        Scope::empty()
+    }
+}
+
 // Two scopes are equal exactly if they have the same atoms in the same order.
+// stays: a derive would promise that the words are equal, and no layer above this crate knows the words
 impl PartialEq for Scope {
     ghost eq = { on atoms_in (pointwise nat_eq) };
 
