@@ -1,5 +1,5 @@
 // Scopes: up to eight atoms, by number, in two words.
-#![tactic(auto)]
+#![tactic(auto, unfolding(crate::specs::Scopes::atoms_in, crate::specs::Scopes::fields_in))]
 
 pub mod scope;
 

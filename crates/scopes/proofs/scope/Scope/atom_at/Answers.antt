@@ -5,11 +5,3 @@ use Rattle.scopes.proofs.scope.Scope.atom_at.Goals as goal
 pub returns-then-index-lt4 : goal.returns-then-index-lt4
 unfolding fields_in
 returns-then-index-lt4 c = search rules
-
-pub returns-then-index-lt8 : goal.returns-then-index-lt8
-unfolding fields_in
-returns-then-index-lt8 c = search rules
-
-pub returns-else-index-lt8 : goal.returns-else-index-lt8
-unfolding fields_in
-returns-else-index-lt8 c = search rules

@@ -1,4 +1,4 @@
-use Rattle.std.proofs.Common.{◌+◌, arith, rules}
+use Rattle.std.proofs.Common.{◌+◌, arith}
 use Rattle.scopes.specs.Scopes.{atoms_in, fields_in}
 use Rattle.scopes.proofs.Words.{more_a, more_b}
 use Rattle.scopes.proofs.scope.Scope.with_atom.Goals as goal
@@ -22,11 +22,3 @@ pub returns-then-n-lt8 : goal.returns-then-n-lt8
 unfolding atoms_in fields_in
 returns-then-n-lt8 c =
     (more_b c.args.self.a c.args.self.b (c.args.number + 1) c.len-n.result (omega arith) (omega arith) c.args.self.used_first (omega arith) (omega arith) c.len-n.ensures.count c.if-n-lt4.false c.if-n-lt8.true).1
-
-pub overflow_add-result : goal.overflow_add-result
-unfolding atoms_in fields_in
-overflow_add-result c = search rules
-
-pub overflow_add-result-then-n-lt8 : goal.overflow_add-result-then-n-lt8
-unfolding atoms_in fields_in
-overflow_add-result-then-n-lt8 c = search rules
