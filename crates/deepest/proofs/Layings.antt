@@ -1,10 +1,11 @@
 -- The laying that takes the highest place for each scope, the last scope first, is worth at least as much as any other.
-use Rattle.std.proofs.Common.{◌≡◌, ℕ, zero, suc, ◌+◌, ◌-◌, ◌*◌, ◌^◌, ◌<◌, ◌≤◌, true, false, List, [], ◌∷◌, length, get_or, take as take-to, drop, set, sym, refl, ap, ◌∙◌, subst, inl, inr, true≢false, le_trans, le_refl, eq-or-lt_of_le, mul-le-mul_left, arith, drop_of_length-le, drop-cons, pow_mono}
+use Rattle.std.proofs.Common.{◌≡◌, ℕ, zero, suc, ◌+◌, ◌*◌, ◌^◌, ◌<◌, ◌≤◌, true, List, [], ◌∷◌, ◌++◌, length, get_or, take as take-to, drop, Some, None, sym, refl, ap, ◌∙◌, subst, le_trans, le_refl, mul-le-mul_left, arith, drop_of_length-le, drop-cons, pow_mono}
+use Rattle.std.proofs.lemmas.List.{take_all, take-take, take_at, get_or-take, get_or_push, length-take-le}
+use Rattle.std.specs.List.{IsLastAndRest}
 use Rattle.scopes.specs.declared.scope.Scope.{Scope}
 use Rattle.scopes.specs.Scopes.{begins}
-use Rattle.rankings.specs.Layings.{atoms, blank, FitsAt, Lays}
+use Rattle.rankings.specs.Layings.{atoms, blank, FitsAt, HighestFit, Lays}
 use Rattle.deepest.specs.Worths.{worth}
-use Rattle.rankings.specs.Places.{laid_scopes}
 
 below_zero : {A : Type 0} (n : ℕ) → n < 0 → A
 below_zero n h = absurd (omega arith)
@@ -69,108 +70,114 @@ start path stack = record {
   under = λ qs j l e. let h : j < length path = omega arith in (place stack 0 path qs j l h).1.within;
 }
 
-le_suc : (m : ℕ) → m ≤ suc m
-le_suc m = omega arith
-
--- the position i, where the scope before k does not fit, is passed
-pub skip : (path stack : List Scope) (i j : ℕ) (gs : List ℕ) → Greedy path stack (suc i) (suc j) gs
-    → begins (get_or path j blank) (get_or stack i blank) ≡ false → Greedy path stack i (suc j) gs
-skip path stack i j gs g miss = record {
-  within = g.within;
-  low = le_trans (le_suc i) g.low;
-  laid = lays_lower stack i (suc i) (drop (suc j) path) gs (le_suc i) g.laid;
-  most = g.most;
-  under = λ qs n l e.
-      let lt : get_or qs n 0 < suc i = g.under qs n l e in
-      let le : get_or qs n 0 ≤ i = omega arith in
-      let nj : n ≡ j = omega arith in
-      elim (eq-or-lt_of_le le) [
-        | inl q ↦ absurd (true≢false (sym (fits_there qs n l nj) ∙ ap (λ (m : ℕ). begins (get_or path j blank) (get_or stack m blank)) q ∙ miss))
-        | inr q ↦ q
-      ];
-}
-  where
-    fits_there : (qs : List ℕ) (n : ℕ) → Lays stack 0 path qs → n ≡ j → begins (get_or path j blank) (get_or stack (get_or qs n 0) blank) ≡ true
-    fits_there qs n l e =
-        subst (λ (m : ℕ). begins (get_or path m blank) (get_or stack (get_or qs n 0) blank) ≡ true) e
-        (place stack 0 path qs n l (subst (λ (m : ℕ). m < length path) (sym e) g.within)).1.prefix
-
--- the scope before k takes the position i
-pub take : (path stack : List Scope) (i j : ℕ) (gs : List ℕ) → Greedy path stack (suc i) (suc j) gs
-    → begins (get_or path j blank) (get_or stack i blank) ≡ true → Greedy path stack i j (i ∷ gs)
-take path stack i j gs g fit =
+-- the scope before k takes the highest position below i that it fits
+take : (path stack : List Scope) (i j q : ℕ) (gs : List ℕ) → Greedy path stack i (suc j) gs → q < i → FitsAt (get_or path j blank) stack q
+    → ((m : ℕ) → m < i → FitsAt (get_or path j blank) stack m → m ≤ q) → Greedy path stack q j (q ∷ gs)
+take path stack i j q gs g lt fit top =
     let n = atoms (get_or path j blank) in
-    let cut : drop j path ≡ get_or path j blank ∷ drop (suc j) path = drop-cons path j blank g.within in
+    let h : j < length path = g.within in
+    let cut : drop j path ≡ get_or path j blank ∷ drop (suc j) path = drop-cons path j blank h in
     record {
-      within = le_trans (le_suc j) g.within;
-      low = le_trans (le_suc i) g.low;
-      laid = subst (λ (ps : List Scope). Lays stack i ps (i ∷ gs)) (sym cut) (le_refl i, record { within = g.low; prefix = fit }, g.laid);
+      within = omega arith;
+      low = omega (arith, g.low);
+      laid = subst (λ (ps : List Scope). Lays stack q ps (q ∷ gs)) (sym cut) (le_refl q, fit, lays_lower stack (suc q) i (drop (suc j) path) gs lt g.laid);
       most = λ qs l.
-          let e = worth_at stack 0 path qs j l g.within in
-          let lt : get_or qs j 0 < suc i = g.under qs j l refl in
-          let f : 4 * get_or qs j 0 ≤ 4 * i = omega arith in
-          let m : n * 2 ^ (4 * get_or qs j 0) ≤ n * 2 ^ (4 * i) = mul-le-mul_left n (pow_mono f) in
+          let e = worth_at stack 0 path qs j l h in
+          let low : get_or qs j 0 ≤ q = top (get_or qs j 0) (g.under qs j l refl) (place stack 0 path qs j l h).1 in
+          let f : 4 * get_or qs j 0 ≤ 4 * q = omega arith in
+          let m : n * 2 ^ (4 * get_or qs j 0) ≤ n * 2 ^ (4 * q) = mul-le-mul_left n (pow_mono f) in
           let b = g.most qs l in
-          let w : worth (drop j path) (i ∷ gs) ≡ n * 2 ^ (4 * i) + worth (drop (suc j) path) gs = ap (λ (ps : List Scope). worth ps (i ∷ gs)) cut in
+          let w : worth (drop j path) (q ∷ gs) ≡ n * 2 ^ (4 * q) + worth (drop (suc j) path) gs = ap (λ (ps : List Scope). worth ps (q ∷ gs)) cut in
           omega arith;
-      under = λ qs h l e.
-          let lt : get_or qs j 0 < suc i = g.under qs j l refl in
-          let r : get_or qs h 0 < get_or qs j 0 = subst (λ (m : ℕ). get_or qs h 0 < get_or qs m 0) (sym e) (rise stack 0 path qs h l (subst (λ (m : ℕ). m < length path) e g.within)) in
+      under = λ qs k l e.
+          let low : get_or qs j 0 ≤ q = top (get_or qs j 0) (g.under qs j l refl) (place stack 0 path qs j l h).1 in
+          let r : get_or qs k 0 < get_or qs j 0 = subst (λ (m : ℕ). get_or qs k 0 < get_or qs m 0) (sym e) (rise stack 0 path qs k l (subst (λ (m : ℕ). m < length path) e h)) in
           omega arith;
     }
 
--- the same as the loop counts
-back : (m : ℕ) → 0 < m → m ≡ suc (m - 1)
-back m h = omega arith
+-- the search as the loop has it: what is left of the path, and the stack below what is laid
+pub record Search (path stack left below : List Scope) (gs : List ℕ) : Type 0 where
+  pub left_part : left ≡ take-to (length left) path
+  pub below_part : below ≡ take-to (length below) stack
+  pub greedy : Greedy path stack (length below) (length left) gs
 
-counted : (path stack : List Scope) (i k : ℕ) (gs : List ℕ) → 0 < i → 0 < k → Greedy path stack i k gs → Greedy path stack (suc (i - 1)) (suc (k - 1)) gs
-counted path stack i k gs hi hk g = subst (λ (m : ℕ). Greedy path stack (suc (i - 1)) m gs) (back k hk) (subst (λ (m : ℕ). Greedy path stack m k gs) (back i hi) g)
+pub search_start : (path stack : List Scope) → Search path stack path stack []
+search_start path stack = record {
+  left_part = sym (take_all (length path) path (le_refl (length path)));
+  below_part = sym (take_all (length stack) stack (le_refl (length stack)));
+  greedy = start path stack;
+}
 
-pub passed : (path stack : List Scope) (i k : ℕ) (gs : List ℕ) → 0 < i → 0 < k → Greedy path stack i k gs
-    → false ≡ begins (get_or path (k - 1) blank) (get_or stack (i - 1) blank) → Greedy path stack (i - 1) k gs
-passed path stack i k gs hi hk g miss =
-    subst (λ (m : ℕ). Greedy path stack (i - 1) m gs) (sym (back k hk)) (skip path stack (i - 1) (k - 1) gs (counted path stack i k gs hi hk g) (sym miss))
+-- a scope fits the part of a stack below i where it fits the stack there
+fits_part : (s : Scope) (stack below : List Scope) (m : ℕ) → below ≡ take-to (length below) stack → length below ≤ length stack → FitsAt s below m → FitsAt s stack m
+fits_part s stack below m e h f =
+    let lt : m < length below = f.within in
+    record {
+      within = omega arith;
+      prefix = subst (λ (t : Scope). begins s t ≡ true) (ap (λ (ys : List Scope). get_or ys m blank) e ∙ get_or-take (length below) stack m blank lt) f.prefix;
+    }
 
-pub taken : (path stack : List Scope) (i k : ℕ) (gs : List ℕ) → 0 < i → 0 < k → Greedy path stack i k gs
-    → true ≡ begins (get_or path (k - 1) blank) (get_or stack (i - 1) blank) → Greedy path stack (i - 1) (k - 1) ((i - 1) ∷ gs)
-taken path stack i k gs hi hk g fit = take path stack (i - 1) (k - 1) gs (counted path stack i k gs hi hk g) (sym fit)
+fits_whole : (s : Scope) (stack below : List Scope) (m : ℕ) → below ≡ take-to (length below) stack → m < length below → FitsAt s stack m → FitsAt s below m
+fits_whole s stack below m e lt f = record {
+  within = lt;
+  prefix = subst (λ (t : Scope). begins s t ≡ true) (sym (ap (λ (ys : List Scope). get_or ys m blank) e ∙ get_or-take (length below) stack m blank lt)) f.prefix;
+}
 
--- what it adds to the worth
-pub taken_worth : (path : List Scope) (i k : ℕ) (gs : List ℕ) → 0 < k → k ≤ length path
-    → worth (drop (k - 1) path) (i ∷ gs) ≡ atoms (get_or path (k - 1) blank) * 2 ^ (4 * i) + worth (drop k path) gs
-taken_worth path i k gs h b =
-    let lt : k - 1 < length path = omega arith in
-    ap (λ (ps : List Scope). worth ps (i ∷ gs)) (drop-cons path (k - 1) blank lt)
-    ∙ ap (λ (m : ℕ). atoms (get_or path (k - 1) blank) * 2 ^ (4 * i) + worth (drop m path) gs) (sym (back k h))
+-- the last of the scopes that are left is the path's
+last_left : (path left rest : List Scope) (s : Scope) → left ≡ take-to (length left) path → left ≡ rest ++ s ∷ [] → length rest + 1 ≡ length left → s ≡ get_or path (length rest) blank
+last_left path left rest s e f n =
+    let lt : length rest < length left = omega arith in
+    sym (get_or_push rest s blank (length rest) refl)
+    ∙ ap (λ (ys : List Scope). get_or ys (length rest) blank) (sym f ∙ e)
+    ∙ get_or-take (length left) path (length rest) blank lt
 
--- and to the laid scopes
-pub taken_scopes : (path : List Scope) (i k : ℕ) (gs : List ℕ) → 0 < k → k ≤ length path
-    → laid_scopes (drop (k - 1) path) (i ∷ gs) ≡ record { atoms = atoms (get_or path (k - 1) blank); position = i } ∷ laid_scopes (drop k path) gs
-taken_scopes path i k gs h b =
-    let lt : k - 1 < length path = omega arith in
-    ap (λ (ps : List Scope). laid_scopes ps (i ∷ gs)) (drop-cons path (k - 1) blank lt)
-    ∙ ap (λ (m : ℕ). record { atoms = atoms (get_or path (k - 1) blank); position = i } ∷ laid_scopes (drop m path) gs) (sym (back k h))
+-- one more, where the last scope that is left has its highest fit
+pub search_taken : (path stack left below : List Scope) (gs : List ℕ) (s : Scope) (rest : List Scope) (q : ℕ)
+    → Search path stack left below gs → IsLastAndRest left s rest → HighestFit s below (Some q) → Search path stack rest (take-to q below) (q ∷ gs)
+search_taken path stack left below gs s rest q h l f =
+    let j = length rest in
+    let i = length below in
+    let e : s ≡ get_or path j blank = last_left path left rest s h.left_part l.0 l.1 in
+    let k : length left ≡ suc j = omega (arith, l.1) in
+    let g : Greedy path stack i (suc j) gs = subst (λ (m : ℕ). Greedy path stack i m gs) k h.greedy in
+    let lt : q < i = f.0.within in
+    let short : length (take-to q below) ≡ q = length-take-le q below (omega arith) in
+    let fit : FitsAt (get_or path j blank) stack q = subst (λ (t : Scope). FitsAt t stack q) e (fits_part s stack below q h.below_part g.low f.0) in
+    record {
+      left_part = sym (take_at rest (s ∷ []) j refl) ∙ ap (take-to j) (sym l.0 ∙ h.left_part) ∙ take-take j (length left) path (omega (arith, l.1));
+      below_part =
+          rw short (ap (take-to q) h.below_part ∙ take-take q i stack (omega arith));
+      greedy =
+          rw short (take path stack i j q gs g lt fit
+          (λ m b at. f.1 m (fits_whole s stack below m h.below_part b (subst (λ (t : Scope). FitsAt t stack m) (sym e) at))));
+    }
 
--- a list from k on to n, where the entry before k is set
-set_front : {A : Type 0} (xs : List A) (k n : ℕ) (x : A) → k < n → n ≤ length xs → drop k (take-to n (set xs k x)) ≡ x ∷ drop (suc k) (take-to n xs)
-set_front xs k zero x h b = absurd (omega arith)
-set_front [] k (suc n) x h b = absurd (omega arith)
-set_front (y ∷ xs) zero (suc n) x h b = refl
-set_front (y ∷ xs) (suc k) (suc n) x h b = set_front xs k n x (omega arith) (omega arith)
+-- what it adds to what is laid
+pub search_more : (path stack left below : List Scope) (gs : List ℕ) (s : Scope) (rest : List Scope)
+    → Search path stack left below gs → IsLastAndRest left s rest → drop (length rest) path ≡ s ∷ drop (length left) path
+search_more path stack left below gs s rest h l =
+    let lt : length rest < length path = omega (arith, l.1, h.greedy.within) in
+    let k : suc (length rest) ≡ length left = omega (arith, l.1) in
+    drop-cons path (length rest) blank lt
+    ∙ ap (λ (t : Scope). t ∷ drop (suc (length rest)) path) (sym (last_left path left rest s h.left_part l.0 l.1))
+    ∙ ap (λ (m : ℕ). s ∷ drop m path) k
 
-pub set_before : {A : Type 0} (xs : List A) (k n : ℕ) (x : A) → 0 < k → k ≤ n → n ≤ length xs → drop (k - 1) (take-to n (set xs (k - 1) x)) ≡ x ∷ drop k (take-to n xs)
-set_before xs k n x h l b =
-    let lt : k - 1 < n = omega arith in
-    set_front xs (k - 1) n x lt b ∙ ap (λ (m : ℕ). x ∷ drop m (take-to n xs)) (sym (back k h))
+-- the last scope that is left fits nowhere
+pub search_missing : (path stack left below : List Scope) (gs : List ℕ) (s : Scope) (rest : List Scope)
+    → Search path stack left below gs → IsLastAndRest left s rest → HighestFit s below None → (qs : List ℕ) → Lays stack 0 path qs → ⊥
+search_missing path stack left below gs s rest h l f qs lays =
+    let j = length rest in
+    let k : length left ≡ suc j = omega (arith, l.1) in
+    let lt : j < length path = omega (arith, l.1, h.greedy.within) in
+    let e : get_or path j blank ≡ s = sym (last_left path left rest s h.left_part l.0 l.1) in
+    let under : get_or qs j 0 < length below = h.greedy.under qs j lays k in
+    f (get_or qs j 0) (fits_whole s stack below (get_or qs j 0) h.below_part under
+    (subst (λ (t : Scope). FitsAt t stack (get_or qs j 0)) e (place stack 0 path qs j lays lt).1))
 
 -- all scopes are laid
-pub whole : (path stack : List Scope) (i k : ℕ) (gs : List ℕ) → k ≡ 0 → Greedy path stack i k gs
+pub search_whole : (path stack left below : List Scope) (gs : List ℕ) → length left ≡ 0 → Search path stack left below gs
     → Lays stack 0 path gs × ((qs : List ℕ) → Lays stack 0 path qs → worth path qs ≤ worth path gs)
-whole path stack i k gs e g =
-    let z : Greedy path stack i 0 gs = subst (λ (m : ℕ). Greedy path stack i m gs) e g in
-    let b : 0 ≤ i = omega arith in
-    (lays_lower stack 0 i path gs b z.laid, z.most)
-
--- the stack is at its end, and a scope is left
-pub missing : (path stack : List Scope) (i k : ℕ) (gs : List ℕ) → i ≡ 0 → 0 < k → Greedy path stack i k gs → (qs : List ℕ) → Lays stack 0 path qs → ⊥
-missing path stack i k gs e h g qs l = let u : get_or qs (k - 1) 0 < i = g.under qs (k - 1) l (back k h) in omega arith
+search_whole path stack left below gs e h =
+    let z : Greedy path stack (length below) 0 gs = subst (λ (m : ℕ). Greedy path stack (length below) m gs) e h.greedy in
+    let b : 0 ≤ length below = omega arith in
+    (lays_lower stack 0 (length below) path gs b z.laid, z.most)

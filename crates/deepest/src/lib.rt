@@ -2,22 +2,22 @@
 // that matches more of it; else the two without that scope, in turn.
 #![tactic(auto)]
 
-ghost use Rattle.std.specs.Prelude.{◌≡◌, ℕ, ◌+◌, ◌*◌, ◌^◌, ◌<◌, ◌≤◌, length, take, nat_le, slice_index_or};
-ghost use Rattle.scopes.specs.Scopes.{atoms_in, begins};
-ghost use Rattle.rankings.specs.Layings.{blank};
+ghost use Rattle.std.specs.Prelude.{◌≡◌, ℕ, ◌+◌, ◌*◌, ◌^◌, ◌<◌, ◌≤◌, length, take, nat_le};
+ghost use Rattle.rankings.specs.Layings.{HighestFit};
 ghost use Rattle.rankings.specs.Ranks.{near_atoms, near_position};
-ghost use Rattle.deepest.specs.Worths.{value, Words, RoomAt, Room, lone_digits};
+ghost use Rattle.deepest.specs.Worths.{value, Words, RoomAt, Room, lone_digits, weight, Descends};
 ghost use Rattle.deepest.specs.Best.{BestIsHighest, Highest, path_digits};
 ghost use Rattle.deepest.specs.Manual.{Manual};
-ghost use Rattle.deepest.specs.Tops.{LaidTop};
+ghost use Rattle.deepest.specs.Tops.{LaidDown, LaidTop};
 ghost use Rattle.deepest.specs.BestLaws;
 
+use arrayvec::ArrayVec;
 use rankings::{Laid, Places, Ranking, lowest, near_atoms, near_position};
 use scopes::Scope;
 
 // How many atoms are laid at each of 64 positions: digits of four bits, that of position 63 first, so that `top` holds the positions
 // 63 to 48. Digits compare as one whole number.
-#[derive(Clone, Copy)]
+#[derive(Clone, Copy, PartialEq, Eq, PartialOrd, Ord, Default)]
 pub struct Digits {
     pub top: u64,
     pub upper: u64,
@@ -25,22 +25,12 @@ pub struct Digits {
     pub bottom: u64,
 }
 
-// No atoms at any position.
-fn blank_digits() -> Digits
-    ensures value { value result ≡ 0 }
-    ensures room { (i : ℕ) → Room result i }
-{
-    Digits {
-        top: 0,
-        upper: 0,
-        lower: 0,
-        bottom: 0,
-    }
-}
-
 // A word with a digit below all that stand in it. Word 0 holds the digits of the positions 0 to 15, word 1 the next ones, and so on.
 fn put(word: u64, index: usize, digit: u32, position: usize) -> u64
-    requires { (digit ≤ 8) × ((16 * index ≤ position) × ((position < 16 * index + 16) × (RoomAt index word (position + 1)))) }
+    requires few { digit ≤ 8 }
+    requires from { 16 * index ≤ position }
+    requires below { position < 16 * index + 16 }
+    requires room { RoomAt index word (position + 1) }
     ensures room { RoomAt index result position }
     ensures value { result * 2 ^ (64 * index) ≡ word * 2 ^ (64 * index) + digit * 2 ^ (4 * position) }
 {
@@ -49,7 +39,9 @@ fn put(word: u64, index: usize, digit: u32, position: usize) -> u64
 
 // A rank with a digit below all that stand in it.
 fn with_digit(rank: Digits, digit: u32, position: usize) -> Digits
-    requires { (digit ≤ 8) × ((position < 64) × (Room rank (position + 1))) }
+    requires few { digit ≤ 8 }
+    requires low { position < 64 }
+    requires room { Room rank (position + 1) }
     ensures room { Room result position }
     ensures value { value result ≡ value rank + digit * 2 ^ (4 * position) }
 {
@@ -82,115 +74,82 @@ pub fn lone(atoms: u32, position: usize) -> Digits
     ensures words { Words result }
     ensures rank { result ≡ lone_digits (near_atoms atoms) (near_position position) }
 {
-    with_digit(blank_digits(), near_atoms(atoms), near_position(position))
+    with_digit(
+        Digits::default(),
+        near_atoms(atoms),
+        near_position(position),
+    )
 }
 
-// Whether one of a path's scopes fits a stack at a position.
-fn fits(path: &[Scope], index: usize, stack: &[Scope], position: usize) -> bool
-    requires { (index < length path.now) × (position < length stack.now) }
-    ensures { result ≡ begins (slice_index_or path.now index blank) (slice_index_or stack.now position blank) }
+// The highest position of a stack that a scope fits.
+fn highest_fit(scope: Scope, stack: &[Scope]) -> Option<usize>
+    ensures { HighestFit scope stack.now result }
 {
-    path[index].is_prefix_of(stack[position])
+    stack.iter().rposition(|other| scope.is_prefix_of(*other))
 }
 
-// One of a path's scopes as it is laid at a position.
-fn laid_at(path: &[Scope], index: usize, position: usize) -> Laid
-    requires { index < length path.now }
-    ensures atoms { result.atoms ≡ length (atoms_in (slice_index_or path.now index blank)) }
-    ensures eight { result.atoms ≤ 8 }
-    ensures position { result.position ≡ position }
-{
-    Laid {
-        atoms: path[index].len(),
-        position,
-    }
-}
-
-// The digits of the highest laying, from the top of the stack down: each scope, the last one first, takes the first place that it fits.
-fn search_down(path: &[Scope], stack: &[Scope]) -> Option<Digits>
+// The highest laying of a path, its last scope first: from the top of the stack down, each takes the first place that it fits.
+fn lay_down(path: &[Scope], stack: &[Scope]) -> Option<ArrayVec<Laid, 64>>
     requires { length stack.now ≤ 64 }
-    ensures rank { result ≡ path_digits path.now stack.now }
-    ensures highest { Highest path.now stack.now result }
-    ensures best { BestIsHighest }
-    ensures manual { Manual }
+    ensures { LaidDown path.now stack.now result }
 {
-    let mut rank = blank_digits();
-    let mut left = path.len();
-    let mut height = stack.len();
-    while height > 0 && left > 0 {
-        height -= 1;
-        if fits(path, left - 1, stack, height) {
-            left -= 1;
-            rank = with_digit(rank, laid_at(path, left, height).atoms, height);
-        }
+    if path.is_empty() {
+        return None;
     }
-    if path.len() > 0 && left == 0 {
-        Some(rank)
-    } else {
-        None
+    let mut laid = ArrayVec::new();
+    let mut left = path;
+    let mut below = stack;
+    while let Some((scope, rest)) = left.split_last() {
+        let position = highest_fit(*scope, below)?;
+        laid.push(Laid {
+            atoms: scope.len(),
+            position,
+        });
+        left = rest;
+        below = &below[..position];
     }
+    Some(laid)
+}
+
+// The digits of laid scopes, the deepest one first.
+fn digits_of(laid: &[Laid]) -> Digits
+    requires { Descends 64 laid.now }
+    ensures words { Words result }
+    ensures value { value result ≡ weight laid.now }
+{
+    let mut rank = Digits::default();
+    for scope in laid {
+        rank = with_digit(rank, scope.atoms, scope.position);
+    }
+    rank
 }
 
 // The rank of a path on a stack: the highest of its layings.
+#[tactic(auto, using(crate::specs::BestLaws::best_highest, crate::proofs::Rules::manual))]
 pub fn path(path: &[Scope], stack: &[Scope]) -> Option<Digits>
     ensures rank { result ≡ path_digits path.now (take 64 stack.now) }
     ensures highest { Highest path.now (take 64 stack.now) result }
     ensures best { BestIsHighest }
     ensures manual { Manual }
 {
-    search_down(path, lowest(stack))
-}
-
-// The same search, for the places themselves.
-fn lay_down(path: &[Scope], stack: &[Scope]) -> Option<Places>
-    requires { length stack.now ≤ 64 }
-    ensures { LaidTop path.now stack.now result }
-{
-    if path.len() == 0 || path.len() > stack.len() {
-        return None;
-    }
-    let mut laid = [Laid {
-        atoms: 0,
-        position: 0,
-    }; 64];
-    let mut left = path.len();
-    let mut height = stack.len();
-    while height > 0 && left > 0 {
-        height -= 1;
-        if fits(path, left - 1, stack, height) {
-            left -= 1;
-            laid[left] = laid_at(path, left, height);
-        }
-    }
-    if left > 0 {
-        return None;
-    }
-    Some(Places {
-        laid,
-        count: path.len(),
-    })
+    let laid = lay_down(path, lowest(stack))?;
+    Some(digits_of(laid.as_slice()))
 }
 
 // A laying that is worth the most, and none exactly if the path has no rank.
 pub fn lay(path: &[Scope], stack: &[Scope]) -> Option<Places>
     ensures { LaidTop path.now (take 64 stack.now) result }
 {
-    lay_down(path, lowest(stack))
+    let mut laid = lay_down(path, lowest(stack))?;
+    laid.reverse();
+    Some(Places { laid })
 }
 
 // Whether one rank is not above another.
 pub fn not_above(a: Digits, b: Digits) -> bool
     ensures { result ≡ nat_le (value a) (value b) }
 {
-    if a.top != b.top {
-        a.top < b.top
-    } else if a.upper != b.upper {
-        a.upper < b.upper
-    } else if a.lower != b.lower {
-        a.lower < b.lower
-    } else {
-        a.bottom <= b.bottom
-    }
+    a <= b
 }
 
 pub struct Deepest;

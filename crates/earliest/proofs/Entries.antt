@@ -1,15 +1,13 @@
 -- A turn of the loop that writes a laying out.
-use Rattle.std.proofs.Common.{◌≡◌, ℕ, ◌+◌, ◌<◌, ◌≤◌, true, false, List, [], ◌∷◌, ◌++◌, length, get_or, take, drop, set, Some, None, Option, sym, refl, ap, ◌∙◌, append_assoc, append-nil, add-one, arith, take-suc-set}
-use Rattle.std.proofs.lemmas.List.{drop_more}
+use Rattle.std.proofs.Common.{◌≡◌, ℕ, ◌+◌, ◌<◌, ◌≤◌, List, [], ◌∷◌, ◌++◌, length, drop, Some, None, Option, sym, refl, ap, ◌∙◌, append_assoc, append-nil, arith}
 use Rattle.scopes.specs.declared.scope.Scope.{Scope}
-use Rattle.scopes.specs.Scopes.{begins}
 use Rattle.rankings.specs.declared.Laid.{Laid}
 use Rattle.rankings.specs.Layings as layings
-use Rattle.rankings.specs.Layings.{atoms, blank}
+use Rattle.rankings.specs.Layings.{atoms, LowestFit}
 use Rattle.earliest.specs.Lowest.{Lowest, before, places, Placed}
 use Rattle.rankings.specs.Places.{laid_scopes}
 use Rattle.earliest.specs.Placement.{places_law}
-use Rattle.earliest.proofs.Turns.{place_here, place_later, all_laid, cut_short}
+use Rattle.earliest.proofs.Turns.{place_here, place_nowhere, all_laid}
 
 -- the entries so far, with those of what is left of a path
 abbrev pub joined : List Laid → List Scope → Option (List ℕ) → Option (List Laid)
@@ -27,31 +25,25 @@ joined_before : (ls : List Laid) (s : Scope) (path : List Scope) (i : ℕ) (o : 
 joined_before ls s path i None = refl
 joined_before ls s path i (Some qs) = ap Some (sym (append_assoc ls (entry s i ∷ []) (laid_scopes path qs)))
 
-pub list_here : (laid : List Laid) (v : Laid) (path stack : List Scope) (k i : ℕ) → k < length laid → k < length path → i < length stack → begins (get_or path k blank) (get_or stack i blank) ≡ true → v ≡ entry (get_or path k blank) i
-    → listed (take (k + 1) (set laid k v)) (drop (k + 1) path) (drop (i + 1) stack) (i + 1) ≡ listed (take k laid) (drop k path) (drop i stack) i
-list_here laid v path stack k i m h l e f =
-    let ls = take k laid in
-    let o = places (drop (k + 1) path) (drop (i + 1) stack) (i + 1) in
-    let t : take (k + 1) (set laid k v) ≡ ls ++ entry (get_or path k blank) i ∷ [] = rw (add-one k) (take-suc-set laid k v m) ∙ ap (λ (u : Laid). ls ++ u ∷ []) f in
-    ap (λ (xs : List Laid). joined xs (drop (k + 1) path) o) t
-    ∙ sym (ap (joined ls (drop k path)) (place_here path stack k i h l e)
-    ∙ ap (λ (ys : List Scope). joined ls ys (before i o)) (drop_more path k blank h)
-    ∙ joined_before ls (get_or path k blank) (drop (k + 1) path) i o)
+pub list_here : (ls : List Laid) (s : Scope) (path left stack : List Scope) (from q : ℕ) → path ≡ s ∷ left → LowestFit s (drop from stack) (Some q)
+    → listed (ls ++ entry s (from + q) ∷ []) left (drop (from + q + 1) stack) (from + q + 1) ≡ listed ls path (drop from stack) from
+list_here ls s path left stack from q e f =
+    let o = places left (drop (from + q + 1) stack) (from + q + 1) in
+    sym (ap (joined ls path) (place_here s path left stack from q e f)
+    ∙ ap (λ (ys : List Scope). joined ls ys (before (from + q) o)) e
+    ∙ joined_before ls s left (from + q) o)
 
-pub list_later : (ls : List Laid) (path stack : List Scope) (k i : ℕ) → k < length path → i < length stack → begins (get_or path k blank) (get_or stack i blank) ≡ false
-    → listed ls (drop k path) (drop (i + 1) stack) (i + 1) ≡ listed ls (drop k path) (drop i stack) i
-list_later ls path stack k i h l e = sym (ap (joined ls (drop k path)) (place_later path stack k i h l e))
+pub list_nowhere : (ls : List Laid) (s : Scope) (path left stack : List Scope) (from : ℕ) → path ≡ s ∷ left → LowestFit s (drop from stack) None
+    → listed ls path (drop from stack) from ≡ None
+list_nowhere ls s path left stack from e f = ap (joined ls path) (place_nowhere s path left stack from e f)
 
 none_laid : (path : List Scope) → laid_scopes path [] ≡ []
 none_laid [] = refl
 none_laid (s ∷ path) = refl
 
-pub list_all : (ls : List Laid) (path stack : List Scope) (k i : ℕ) → k ≡ length path → listed ls (drop k path) stack i ≡ Some ls
+pub list_all : (ls : List Laid) (path stack : List Scope) (k i : ℕ) → length path ≤ k → listed ls (drop k path) stack i ≡ Some ls
 list_all ls path stack k i e =
     ap (joined ls (drop k path)) (all_laid path stack k i e) ∙ ap (λ (xs : List Laid). Some (ls ++ xs)) (none_laid (drop k path)) ∙ ap Some (append-nil ls)
-
-pub list_short : (ls : List Laid) (path stack : List Scope) (k i : ℕ) → k < length path → length stack ≤ i → listed ls (drop k path) (drop i stack) i ≡ None
-list_short ls path stack k i h l = ap (joined ls (drop k path)) (cut_short path stack k i h l)
 
 -- ---- what the entries are
 none_some : {x : List Laid} → ◌≡◌ {A = Option (List Laid)} None (Some x) → ⊥

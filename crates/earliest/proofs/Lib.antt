@@ -1,6 +1,6 @@
--- Turns: a turn of a loop that lays a path.
+-- Turns: a turn of the loop that lays a path.
 pub mod Turns
--- Adding: the same of the one that adds the terms.
-pub mod Adding
--- Entries: the same of the one that writes the laying out.
+-- Entries: the same, with the laying written out.
 pub mod Entries
+-- Adding: the score of a laying that is written out.
+pub mod Adding

@@ -3,14 +3,12 @@
 // even.
 #![tactic(auto)]
 
-ghost use Rattle.std.specs.Prelude.{◌≡◌, ◌+◌, ◌*◌, ◌^◌, ◌<◌, ◌≤◌, false, leb, length, take, pos, nat_le, slice_index_or};
+ghost use Rattle.std.specs.Prelude.{◌≡◌, ◌+◌, ◌*◌, ◌^◌, ◌<◌, ◌≤◌, false, leb, length, take, pos, nat_le, to_bits};
 ghost use Rattle.std.specs.Float.{fin, binary64};
 ghost use Rattle.std.specs.Float.Ieee.{add};
 ghost use Rattle.std.specs.Float.Ieee.Exact.{HasValue};
-ghost use Rattle.scopes.specs.Scopes.{begins};
-ghost use Rattle.rankings.specs.Layings.{atoms, blank};
-ghost use Rattle.rankings.specs.Ranks.{near_atoms, near_position};
-ghost use Rattle.earliest.specs.Scores.{term, plus, lone_rank, BitsOrder};
+ghost use Rattle.rankings.specs.Ranks.{near_atoms, near_position, Lone};
+ghost use Rattle.earliest.specs.Scores.{term, zero64, plus, added, Rises, lone_rank, BitsOrder};
 ghost use Rattle.earliest.specs.Lowest.{PlacesLaw};
 ghost use Rattle.earliest.specs.Ranks.{path_rank, ByLowest, Finite, Whole, ScoresOrder};
 ghost use Rattle.earliest.specs.PathLaws;
@@ -19,61 +17,82 @@ ghost use Rattle.earliest.specs.RankingLaws;
 pub mod places;
 
 pub use places::lay;
-use rankings::{Ranking, lowest, near_atoms, near_position};
+use places::lay_on;
+use rankings::{Laid, Ranking, lowest, near_atoms, near_position};
 use scopes::Scope;
 
-// A double's bits: above 52 bits of fraction, the exponent plus 1023.
-fn power_bits(position: usize) -> u64
-    requires { position < 64 }
-    ensures { result ≡ (1023 + 3 * position) * 2 ^ 52 }
-{
-    (1023 + 3 * position as u64) * 0x10_0000_0000_0000
+// Some atoms at a position, as a term of a sum.
+#[derive(Clone, Copy)]
+struct LaidTerm {
+    atoms: u32,
+    position: usize,
+    ghost lone: { Lone atoms position },
 }
 
-// 8 to the power of a position.
-fn power(position: usize) -> f64
-    requires { position < 64 }
-    ensures { result ≡ fin false 1 (pos (3 * position)) }
-{
-    f64::from_bits(power_bits(position))
-}
+impl LaidTerm {
+    // The bits of 8 to the power of its position: above 52 bits of fraction, the exponent plus 1023.
+    fn power_bits(self) -> u64
+        ensures { result ≡ (1023 + 3 * self.position) * 2 ^ 52 }
+    {
+        (1023 + 3 * self.position as u64) * 0x10_0000_0000_0000
+    }
 
-// The double of some atoms at a position, which is exact.
-fn laid_term(atoms: u32, position: usize) -> f64
-    requires { (1 ≤ atoms) × ((atoms ≤ 8) × (position < 64)) }
-    ensures { result ≡ term atoms position }
-{
-    atoms as f64 * power(position)
-}
+    // 8 to the power of its position.
+    fn power(self) -> f64
+        ensures { result ≡ fin false 1 (pos (3 * self.position)) }
+    {
+        f64::from_bits(self.power_bits())
+    }
 
-// A sum with a term more, rounded once.
-fn add_term(sum: f64, atoms: u32, position: usize) -> f64
-    requires { (1 ≤ atoms) × ((atoms ≤ 8) × (position < 64)) }
-    ensures { result ≡ add binary64 sum (term atoms position) }
-{
-    sum + laid_term(atoms, position)
-}
+    // Its double, which is exact.
+    fn value(self) -> f64
+        ensures { result ≡ term self.atoms self.position }
+    {
+        self.atoms as f64 * self.power()
+    }
 
-// A sum with one of a path's scopes more, at a position.
-fn add_scope(sum: f64, path: &[Scope], k: usize, position: usize) -> f64
-    requires { (k < length path.now) × (position < 64) }
-    ensures { result ≡ plus sum (atoms (slice_index_or path.now k blank)) position }
-{
-    let count = path[k].len();
-    if count == 0 {
-        sum
-    } else {
-        add_term(sum, count, position)
+    // The bits of that double.
+    fn bits(self) -> u64
+        ensures rank { result ≡ lone_rank self.atoms self.position }
+        ensures exact { HasValue (term self.atoms self.position) false (self.atoms * 2 ^ (3 * self.position)) 1 }
+    {
+        self.value().to_bits()
+    }
+
+    // A sum with this term more, rounded once.
+    fn added_to(self, sum: f64) -> f64
+        ensures { result ≡ add binary64 sum (term self.atoms self.position) }
+    {
+        sum + self.value()
     }
 }
 
-// The bits of that double.
-fn lone_bits(atoms: u32, position: usize) -> u64
-    requires { (1 ≤ atoms) × ((atoms ≤ 8) × (position < 64)) }
-    ensures rank { result ≡ lone_rank atoms position }
-    ensures exact { HasValue (term atoms position) false (atoms * 2 ^ (3 * position)) 1 }
+// A sum with a laid scope more; one of no atoms adds nothing.
+fn add_laid(sum: f64, laid: Laid) -> f64
+    requires few { laid.atoms ≤ 8 }
+    requires low { laid.position < 64 }
+    ensures { result ≡ plus sum laid.atoms laid.position }
 {
-    laid_term(atoms, position).to_bits()
+    if laid.atoms == 0 {
+        return sum;
+    }
+    let term = LaidTerm {
+        atoms: laid.atoms,
+        position: laid.position,
+    };
+    term.added_to(sum)
+}
+
+// The bits of a laying's score: the terms of its scopes added, the first one first.
+fn score_bits(laid: &[Laid]) -> u64
+    requires { Rises 0 laid.now }
+    ensures { result ≡ to_bits binary64 (added zero64 laid.now) }
+{
+    let mut sum = 0.0;
+    for scope in laid {
+        sum = add_laid(sum, *scope);
+    }
+    sum.to_bits()
 }
 
 // The rank of a scope of so many atoms at a position, both taken as the nearest that can be.
@@ -81,10 +100,15 @@ pub fn lone(atoms: u32, position: usize) -> u64
     ensures rank { result ≡ lone_rank (near_atoms atoms) (near_position position) }
     ensures exact { HasValue (term (near_atoms atoms) (near_position position)) false (near_atoms atoms * 2 ^ (3 * near_position position)) 1 }
 {
-    lone_bits(near_atoms(atoms), near_position(position))
+    let term = LaidTerm {
+        atoms: near_atoms(atoms),
+        position: near_position(position),
+    };
+    term.bits()
 }
 
 // Whether one rank is not above another: the bits of doubles, none of them negative, stand in the doubles' order.
+#[tactic(auto, using(crate::specs::BitOrder::bits_order, crate::specs::PathLaws::scores_order))]
 pub fn not_above(a: u64, b: u64) -> bool
     ensures test { result ≡ nat_le a b }
     ensures floats { BitsOrder }
@@ -93,49 +117,8 @@ pub fn not_above(a: u64, b: u64) -> bool
     a <= b
 }
 
-// Whether a path's scope fits a stack at a position.
-fn fits_at(path: &[Scope], k: usize, stack: &[Scope], position: usize) -> bool
-    requires { (k < length path.now) × (position < length stack.now) }
-    ensures { result ≡ begins (slice_index_or path.now k blank) (slice_index_or stack.now position blank) }
-{
-    path[k].is_prefix_of(stack[position])
-}
-
-// The rank of a path on a stack of at most 64 scopes: one way through the stack, with the sum so far.
-fn path_rank(path: &[Scope], stack: &[Scope]) -> Option<u64>
-    requires { length stack.now ≤ 64 }
-    ensures { result ≡ path_rank path.now stack.now }
-{
-    if path.len() == 0 {
-        return None;
-    }
-    let mut sum = 0.0;
-    let mut k = 0;
-    for i in 0..stack.len() {
-        if fits_at(path, k, stack, i) {
-            sum = add_scope(sum, path, k, i);
-            k += 1;
-            if k == path.len() {
-                return Some(sum.to_bits());
-            }
-        }
-    }
-    None
-}
-
-// The same with what follows from it.
-fn path_on(path: &[Scope], stack: &[Scope]) -> Option<u64>
-    requires { length stack.now ≤ 64 }
-    ensures rank { result ≡ path_rank path.now stack.now }
-    ensures earliest { ByLowest path.now stack.now result }
-    ensures finite { Finite path.now stack.now }
-    ensures whole { Whole path.now stack.now result }
-    ensures law { PlacesLaw }
-{
-    path_rank(path, stack)
-}
-
 // The rank of a path on the lowest 64 scopes of a stack.
+#[tactic(auto, using(crate::specs::Placement::places_law))]
 pub fn path(path: &[Scope], stack: &[Scope]) -> Option<u64>
     ensures rank { result ≡ path_rank path.now (take 64 stack.now) }
     ensures earliest { ByLowest path.now (take 64 stack.now) result }
@@ -143,7 +126,8 @@ pub fn path(path: &[Scope], stack: &[Scope]) -> Option<u64>
     ensures whole { Whole path.now (take 64 stack.now) result }
     ensures law { PlacesLaw }
 {
-    path_on(path, lowest(stack))
+    let places = lay_on(path, lowest(stack))?;
+    Some(score_bits(places.laid.as_slice()))
 }
 
 // Named where a ranking is chosen; it holds nothing.

@@ -1,46 +1,38 @@
-// The positions of a path's scopes, for a program that shows them.
-ghost use Rattle.std.specs.Prelude.{◌≡◌, ◌<◌, ◌≤◌, length, take, slice_index_or};
-ghost use Rattle.rankings.specs.Layings as layings;
+// Laying a path on a stack, for its rank and for a program that shows where it lies.
+ghost use Rattle.std.specs.Prelude.{◌≤◌, length, take};
+ghost use Rattle.rankings.specs.Layings.{LowestFit};
 ghost use Rattle.earliest.specs.Places.{ListsLowest};
 
-use crate::fits_at;
+use arrayvec::ArrayVec;
 use rankings::{Laid, Places, lowest};
 use scopes::Scope;
 
-// One of a path's scopes at the position i.
-fn laid_scope(path: &[Scope], k: usize, i: usize) -> Laid
-    requires { k < length path.now }
-    ensures { result ≡ record { atoms = layings.atoms (slice_index_or path.now k layings.blank); position = i } }
+// The lowest position of a stack that a scope fits.
+fn lowest_fit(scope: Scope, stack: &[Scope]) -> Option<usize>
+    ensures { LowestFit scope stack.now result }
 {
-    Laid {
-        atoms: path[k].len(),
-        position: i,
-    }
+    stack.iter().position(|other| scope.is_prefix_of(*other))
 }
 
-// A path laid on a stack of at most 64 scopes.
-fn lay_on(path: &[Scope], stack: &[Scope]) -> Option<Places>
+// A path laid on a stack of at most 64 scopes: each of its scopes in turn takes the lowest position that it can.
+pub(crate) fn lay_on(path: &[Scope], stack: &[Scope]) -> Option<Places>
     requires { length stack.now ≤ 64 }
     ensures { ListsLowest path.now stack.now result }
 {
-    if path.len() == 0 {
+    if path.is_empty() {
         return None;
     }
-    let mut laid = [Laid {
-        atoms: 0,
-        position: 0,
-    }; 64];
-    let mut k = 0;
-    for i in 0..stack.len() {
-        if fits_at(path, k, stack, i) {
-            laid[k] = laid_scope(path, k, i);
-            k += 1;
-            if k == path.len() {
-                return Some(Places { laid, count: k });
-            }
-        }
+    let mut laid = ArrayVec::new();
+    let mut from = 0;
+    for scope in path {
+        let position = from + lowest_fit(*scope, &stack[from..])?;
+        laid.push(Laid {
+            atoms: scope.len(),
+            position,
+        });
+        from = position + 1;
     }
-    None
+    Some(Places { laid })
 }
 
 // A path laid on the lowest 64 scopes of a stack, at the positions that its rank is of.

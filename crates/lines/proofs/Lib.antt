@@ -1,2 +1,4 @@
--- Cut: a text before and behind a byte.
-pub mod Cut
+-- Splitting: a text before and behind a byte.
+-- Stretching: the stretches of a text.
+pub mod Splitting
+pub mod Stretching

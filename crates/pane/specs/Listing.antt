@@ -3,7 +3,7 @@ use Rattle.std.specs.Prelude.{◌≡◌, ℕ, ◌+◌, ◌<◌, cond, List, [], 
 use Rattle.lines.specs.Lines.{Splits, Trimmed}
 use Rattle.repository.specs.Names.{Atoms}
 use Rattle.repository.specs.Refusals.{known, refusal}
-use Rattle.pane.specs.declared.names.Tally.{Tally}
+use Rattle.pane.specs.declared.tally.Tally.{Tally}
 
 -- the first line of a text has a name on it, and `rest` follows the line; 10 is the line feed
 pub record First (text name rest : List ℕ) : Type 0 where

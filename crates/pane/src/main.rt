@@ -1,12 +1,13 @@
 // The formula pane as a program: `pane COMMAND FILE`.
 #![tactic(auto)]
 
-mod files;
 mod names;
+mod tally;
 
-use crate::files::Stopped;
+use reports::Stopped;
 use std::env;
 use std::process::ExitCode;
+use std::str::FromStr;
 
 const USAGE: &str = "usage: pane names FILE
   names FILE   builds the scope names in FILE, one a line, and prints for each how many atoms it has,
@@ -20,15 +21,19 @@ enum Command {
     Rank,
 }
 
-fn command_of(word: &str) -> Option<Command> {
-    if word == "names" {
-        Some(Command::Names)
-    } else if word == "outline" {
-        Some(Command::Outline)
-    } else if word == "rank" {
-        Some(Command::Rank)
-    } else {
-        None
+#[derive(Clone, Copy)]
+struct UnknownCommand;
+
+impl FromStr for Command {
+    type Err = UnknownCommand;
+
+    fn from_str(word: &str) -> Result<Command, UnknownCommand> {
+        match word {
+            "names" => Ok(Command::Names),
+            "outline" => Ok(Command::Outline),
+            "rank" => Ok(Command::Rank),
+            _ => Err(UnknownCommand),
+        }
     }
 }
 
@@ -49,17 +54,18 @@ fn run(rt: &HostRuntime, words: &[String]) -> Result<(), Stopped> {
         println!(rt; "{USAGE}")?;
         return Ok(());
     }
-    let Some(known) = command_of(command) else {
+    let Ok(known) = command.parse() else {
         return misused(rt, "there is no command ", command);
     };
     if words.len() != 3 {
         return misused(rt, "one file is expected behind ", command);
     }
     let file = words[2].as_str();
+    // stays: three arms that call and answer alike
     match known {
         Command::Names => names::run(rt, file),
-        Command::Outline => Ok(outline_report::run(rt, file)?),
-        Command::Rank => Ok(rank_report::run(rt, file)?),
+        Command::Outline => outline_report::run(rt, file),
+        Command::Rank => rank_report::run(rt, file),
     }
 }
 
@@ -78,6 +84,7 @@ fn start(rt: &HostRuntime) -> Result<(), Stopped> {
 }
 
 // Says why the program stops, where nothing has said it yet.
+// stays: one case says nothing, since it has been said
 fn tell(rt: &HostRuntime, stopped: Stopped) -> Result<(), Stopped> {
     match stopped {
         Stopped::Told => {}

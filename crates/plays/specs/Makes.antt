@@ -3,9 +3,9 @@ use Rattle.std.specs.Prelude.{◌≡◌, ℕ, Some, None, Ok, Err, Option, Resul
 use Rattle.stacks.specs.declared.ops.Change.{Change}
 use Rattle.stacks.specs.declared.outline.Place.{Place}
 use Rattle.stacks.specs.Operations.{after}
-use Rattle.stacks.specs.Outlines.{outline_of, outlines}
+use Rattle.stacks.specs.Outlines.{outlines}
 use Rattle.stacks.specs.Refusals.{refusal}
-use Rattle.stacks.specs.Stacks.{Stack, stack_of}
+use Rattle.stacks.specs.Stacks.{Stack}
 use Rattle.stacks.specs.Tellings.{tellings}
 use Rattle.plays.specs.declared.play.Opened.{Opened}
 use Rattle.plays.specs.declared.refusals.Refusal.{Refusal}
@@ -27,15 +27,15 @@ place_of o c = record { line = o.line; position = c.position }
 
 -- a change was made: the stack is that after its operation, and the outline was told with its place
 pub record Made (o : Opened) (c : Change) (t u : Traced) : Type 0 where
-  pub unrefused : change_refusal o c (stack_of t.stack) ≡ None
-  pub stack : stack_of u.stack ≡ after c.operation (stack_of t.stack)
-  pub outline : outline_of u.outline ≡ outlines (place_of o c) (tellings c.operation (stack_of t.stack)) (outline_of t.outline)
+  pub unrefused : change_refusal o c t.stack ≡ None
+  pub stack : u.stack ≡ after c.operation t.stack
+  pub outline : u.outline ≡ outlines (place_of o c) (tellings c.operation t.stack) t.outline
 
 -- its first refusal, and both are as they were
 pub record Unmade (o : Opened) (c : Change) (t : Traced) (f : Refusal) (u : Traced) : Type 0 where
-  pub first : change_refusal o c (stack_of t.stack) ≡ Some (number_of f)
-  pub stack : stack_of u.stack ≡ stack_of t.stack
-  pub outline : outline_of u.outline ≡ outline_of t.outline
+  pub first : change_refusal o c t.stack ≡ Some (number_of f)
+  pub stack : u.stack ≡ t.stack
+  pub outline : u.outline ≡ t.outline
 
 abbrev pub Makes : Opened → Change → Traced → Result Unit Refusal → Traced → Type 0
 Makes o c t (Ok _) u = Made o c t u

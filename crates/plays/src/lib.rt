@@ -7,6 +7,6 @@ pub mod refusals;
 pub mod traced;
 
 pub use flaws::{Flaw, Wanted};
-pub use play::{Event, Opened, Play, Tally};
+pub use play::{Event, Opened, Play, START, Tally};
 pub use refusals::Refusal;
 pub use traced::Traced;

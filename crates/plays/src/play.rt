@@ -4,24 +4,30 @@ ghost use Rattle.repository.specs.Builds.{Builds};
 ghost use Rattle.repository.specs.Held.{atoms_of};
 ghost use Rattle.plays.specs.Follows.{Follows};
 ghost use Rattle.plays.specs.Makes.{Makes};
-ghost use Rattle.plays.specs.Plays.{Opens, Changes, Asks, Starts, Unplayed, Played, Plays};
+ghost use Rattle.plays.specs.Plays.{lines_of, Opens, Changes, Asks, Starts, Unplayed, Played, Plays};
 
 use crate::flaws::{Flaw, Wanted};
 use crate::refusals::{LONGEST, Refusal, admitted};
 use crate::traced::Traced;
+use named::scopes_of;
 use repository::ScopeRepository;
 use scopes::Scope;
-use scripts::{Action, Directive, read, word};
+use scripts::{Action, Directive, Words, read};
 use stacks::{Change, Place, ScopeStackOp};
 
+// How many starting scopes are read: one more than a stack takes, so that it refuses them.
+const MOST: usize = 65;
+
+// stays: by rule an outline is shown a line's number and a position, and 0 stands before line 1
 // What stands before the first line.
-const START: Place = Place {
+pub const START: Place = Place {
     line: 0,
     position: 0,
 };
 
-// The line of text that is open: its number from 1, or 0 before the first; its length; the last accepted position; how
-// many changes it has had; and whether the rest of its changes is passed over.
+// The line of text that is open: its number from 1; its length; the last accepted position; how many changes it has
+// had; and whether the rest of its changes is passed over.
+// stays: a line whose changes have ended still has its number and goes on counting them, so `ended` is no missing value.
 #[derive(Clone, Copy)]
 pub struct Opened {
     pub line: usize,
@@ -43,15 +49,16 @@ pub struct Tally {
 pub struct Play {
     pub repository: ScopeRepository,
     pub traced: Traced,
+    // stays: whether a starting stack was taken, beside a stack that is there in either case
     pub started: bool,
-    pub opened: Opened,
+    // none before the first line
+    pub opened: Option<Opened>,
     pub tally: Tally,
 }
 
-// What a directive came to, where there is something to print.
+// What there is to print of a directive.
 #[derive(Clone, Copy)]
 pub enum Event {
-    Nothing,
     // a line begins, so the one before it is whole
     Line,
     // a line begins that is not taken
@@ -62,28 +69,17 @@ pub enum Event {
 
 // Where a word stands in its line, by its index.
 fn place_of(line: &[u8], index: usize) -> usize {
-    let mut rest = line;
-    for _ in 0..index {
-        let (_, more) = word(rest);
-        rest = more;
-    }
-    let (found, more) = word(rest);
-    line.len()
-        .saturating_sub(found.len())
-        .saturating_sub(more.len())
+    Words::new(line).nth(index).map_or(line.len(), |(at, _)| at)
 }
 
 // The scope that a name has; `at` is where the name stands.
 fn scope_of(repository: &mut ScopeRepository, name: &[u8], at: usize) -> Result<Scope, Flaw>
     ensures { IfOk result (λ x. Builds (atoms_of repository.old) name.now (Ok x) (atoms_of repository.new)) }
 {
-    match repository.build(name) {
-        Ok(scope) => Ok(scope),
-        Err(fault) => Err(Flaw {
-            at,
-            wanted: Wanted::Name(fault),
-        }),
-    }
+    repository.build(name).map_err(|fault| Flaw {
+        at,
+        wanted: Wanted::Name(fault),
+    })
 }
 
 // What a change's words ask of the stack.
@@ -104,40 +100,27 @@ fn operation_of(
 }
 
 // The starting stack of a line's names, behind its first word.
-fn start_of(repository: &mut ScopeRepository, line: &[u8], names: &[u8]) -> Result<Traced, Flaw>
-    ensures { IfOk result (λ t. Follows t) }
-{
-    let mut scopes = [Scope::empty(); 65];
-    let mut count: usize = 0;
-    let mut rest = names;
-    while count < 65 {
-        let (name, more) = word(rest);
-        if name.is_empty() {
-            break;
-        }
-        scopes[count] = scope_of(repository, name, place_of(line, count + 1))?;
-        count += 1;
-        rest = more;
-    }
-    match Traced::from_scopes(&scopes[0..count], START) {
-        Ok(traced) => Ok(traced),
-        Err(fault) => Err(Flaw {
-            at: place_of(line, count),
-            wanted: Wanted::Stack(fault),
-        }),
-    }
+fn start_of(repository: &mut ScopeRepository, line: &[u8], names: &[u8]) -> Result<Traced, Flaw> {
+    let scopes = scopes_of::<MOST>(repository, names).map_err(|refused| Flaw {
+        at: line
+            .len()
+            .saturating_sub(names.len())
+            .saturating_add(refused.at),
+        wanted: Wanted::Name(refused.fault),
+    })?;
+    Traced::from_scopes(scopes.as_slice(), START).map_err(|fault| Flaw {
+        at: place_of(line, scopes.len()),
+        wanted: Wanted::Stack(fault),
+    })
 }
 
 // A change of the open line, at its place.
 fn make(opened: Opened, traced: &mut Traced, change: Change) -> Result<(), Refusal>
-    ensures makes { Makes opened change traced.old result traced.new }
-    ensures follows { Follows traced.old → Follows traced.new }
+    ensures { Makes opened change traced.old result traced.new }
 {
     admitted(opened.last, opened.length, change.position)?;
-    match traced.apply(opened.line, change) {
-        Ok(()) => Ok(()),
-        Err(fault) => Err(Refusal::Operation(fault)),
-    }
+    traced.apply(opened.line, change)?;
+    Ok(())
 }
 
 impl Play {
@@ -149,13 +132,7 @@ impl Play {
             repository: ScopeRepository::new(),
             traced: Traced::new(),
             started: false,
-            opened: Opened {
-                line: 0,
-                length: 0,
-                last: 0,
-                index: 0,
-                ended: false,
-            },
+            opened: None,
             tally: Tally {
                 changes: 0,
                 accepted: 0,
@@ -164,11 +141,17 @@ impl Play {
         }
     }
 
-    fn start(&mut self, line: &[u8], names: &[u8]) -> Result<Event, Flaw>
-        ensures starts { MatchResult result (λ e. Starts self.old e self.new) (λ _. Unplayed self.old self.new) }
-        ensures follows { Follows self.old.traced → Follows self.new.traced }
+    // How many lines have begun.
+    pub fn lines(&self) -> usize
+        ensures { result ≡ lines_of self.now.opened }
     {
-        if self.started || self.opened.line > 0 {
+        self.opened.map_or(0, |opened| opened.line)
+    }
+
+    fn start(&mut self, line: &[u8], names: &[u8]) -> Result<(), Flaw>
+        ensures { MatchResult result (λ _. Starts self.old None self.new) (λ _. Unplayed self.old self.new) }
+    {
+        if self.started || self.opened.is_some() {
             return Err(Flaw {
                 at: place_of(line, 0),
                 wanted: Wanted::Start,
@@ -176,20 +159,21 @@ impl Play {
         }
         self.traced = start_of(&mut self.repository, line, names)?;
         self.started = true;
-        Ok(Event::Nothing)
+        Ok(())
     }
 
     fn open(&mut self, length: usize) -> Event
-        ensures { Opens self.old length result self.new }
+        ensures { Opens self.old length (Some result) self.new }
     {
-        self.opened = Opened {
-            line: self.opened.line.saturating_add(1),
+        let ended = length > LONGEST;
+        self.opened = Some(Opened {
+            line: self.lines().saturating_add(1),
             length,
             last: 0,
             index: 0,
-            ended: length > LONGEST,
-        };
-        if self.opened.ended {
+            ended,
+        });
+        if ended {
             Event::NoLine(Refusal::LongLine)
         } else {
             Event::Line
@@ -197,68 +181,74 @@ impl Play {
     }
 
     // A change of the open line, unless the line's changes have ended.
-    fn change(&mut self, change: Change) -> Event
-        ensures changes { Changes self.old.opened self.old.traced self.old.tally change result self.new }
+    fn change(&mut self, opened: Opened, change: Change) -> Option<Event>
+        ensures changes { Changes opened self.old.traced self.old.tally change result self.new }
         ensures atoms { atoms_of self.new.repository ≡ atoms_of self.old.repository }
-        ensures follows { Follows self.old.traced → Follows self.new.traced }
     {
-        let opened = self.opened;
+        let index = opened.index.saturating_add(1);
         self.tally.changes = self.tally.changes.saturating_add(1);
-        self.opened.index = opened.index.saturating_add(1);
         if opened.ended {
-            return Event::Nothing;
+            self.opened = Some(Opened { index, ..opened });
+            return None;
         }
         match make(opened, &mut self.traced, change) {
             Ok(()) => {
-                self.opened.last = change.position;
+                self.opened = Some(Opened {
+                    last: change.position,
+                    index,
+                    ..opened
+                });
                 self.tally.accepted = self.tally.accepted.saturating_add(1);
-                Event::Nothing
+                None
             }
             Err(refusal) => {
-                self.opened.ended = true;
+                self.opened = Some(Opened {
+                    index,
+                    ended: true,
+                    ..opened
+                });
                 self.tally.refused = self.tally.refused.saturating_add(1);
-                Event::Refused(opened.index, refusal)
+                Some(Event::Refused(opened.index, refusal))
             }
         }
     }
 
     // Plays a directive; its line is for messages alone.
-    fn play(&mut self, line: &[u8], directive: Directive<'_>) -> Result<Event, Flaw>
-        ensures played { MatchResult result (λ e. Played self.old directive.entry e self.new) (λ _. Unplayed self.old self.new) }
-        ensures follows { Follows self.old.traced → Follows self.new.traced }
+    fn play(&mut self, line: &[u8], directive: Directive<'_>) -> Result<Option<Event>, Flaw>
+        ensures { MatchResult result (λ e. Played self.old directive.entry e self.new) (λ _. Unplayed self.old self.new) }
     {
         match directive {
-            Directive::Nothing => Ok(Event::Nothing),
-            Directive::Theme => Ok(Event::Nothing),
-            Directive::Stack(names) => self.start(line, names),
-            Directive::Line(text) => Ok(self.open(text.len())),
+            Directive::Nothing | Directive::Theme => Ok(None),
+            Directive::Stack(names) => {
+                self.start(line, names)?;
+                Ok(None)
+            }
+            Directive::Line(text) => Ok(Some(self.open(text.len()))),
             Directive::Change { position, action } => {
-                if self.opened.line == 0 {
+                let Some(opened) = self.opened else {
                     return Err(Flaw {
                         at: place_of(line, 0),
                         wanted: Wanted::Line,
                     });
-                }
+                };
                 let operation = operation_of(&mut self.repository, line, action)?;
-                Ok(self.change(Change {
-                    position,
-                    operation,
-                }))
+                Ok(self.change(
+                    opened,
+                    Change {
+                        position,
+                        operation,
+                    },
+                ))
             }
         }
     }
 
-    // Plays one line of the script.
-    pub fn take(&mut self, line: &[u8]) -> Result<Event, Flaw>
+    // Plays one line of the script; answers what there is to print, if anything.
+    pub fn take(&mut self, line: &[u8]) -> Result<Option<Event>, Flaw>
         ensures plays { MatchResult result (λ e. Plays self.old line.now e self.new) (λ _. Unplayed self.old self.new) }
-        ensures follows { Follows self.old.traced → Follows self.new.traced }
+        ensures follows { Follows self.new.traced }
     {
-        match read(line) {
-            Ok(directive) => self.play(line, directive),
-            Err(fault) => Err(Flaw {
-                at: fault.at,
-                wanted: Wanted::Form(fault.expected),
-            }),
-        }
+        let directive = read(line)?;
+        self.play(line, directive)
     }
 }

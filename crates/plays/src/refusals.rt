@@ -3,24 +3,27 @@ ghost use Rattle.std.specs.Prelude.{◌≡◌, Some, None, MatchResult};
 ghost use Rattle.plays.specs.Refusals.{number_of, position_refusal};
 
 use stacks::OpFault;
+use thiserror::Error;
 
 // The longest line, in bytes.
 pub(crate) const LONGEST: usize = 65536;
 
-#[derive(Clone, Copy)]
+#[derive(Clone, Copy, Debug, Error)]
 pub enum Refusal {
-    // the line is longer than 65,536 bytes
+    #[error("the line is longer than 65,536 bytes")]
     LongLine,
-    // the position lies before the last accepted one
+    #[error("the position lies before the last accepted one")]
     Before,
-    // the position lies beyond the line
+    #[error("the position lies beyond the line")]
     Beyond,
     // the stack refuses
+    #[error("{0}")]
     Operation(OpFault),
 }
 
 impl Refusal {
     // Its number, as docs/refusals.md lists it.
+    // stays: a case that carries a fault has that fault's number, so these are no discriminants
     pub fn number(self) -> u8
         ensures { result ≡ number_of self }
     {
@@ -30,6 +33,17 @@ impl Refusal {
             Refusal::Beyond => 14,
             Refusal::Operation(fault) => fault.number(),
         }
+    }
+}
+
+impl From<OpFault> for Refusal {
+    ghost use Rattle.std.specs.Prelude.{◌≡◌};
+    ghost use Rattle.plays.specs.declared.refusals.Refusal.TheVariants.{Operation};
+
+    ghost from_gives = { λ refused refusal. refusal ≡ Operation refused };
+
+    fn from(refused: OpFault) -> Refusal {
+        Refusal::Operation(refused)
     }
 }
 

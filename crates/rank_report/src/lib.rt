@@ -4,17 +4,18 @@
 mod decimal;
 mod print;
 
-ghost use Rattle.std.specs.Prelude.{◌≤◌, length, IfOk};
-
-use crate::print::{print_flaw, print_ranks, sum_up};
-use lines::split;
-use reports::{Stopped, read};
+use crate::print::{print_ranks, sum_up};
+use arrayvec::ArrayVec;
+use lines::{cut, split, without_return};
+use named::{NameExpected, Refused, scopes_of};
+use reports::{Found, Stopped, read, stop};
 use repository::{NameFault, ScopeRepository};
 use scopes::Scope;
-use scripts::word;
+use std::fmt;
 use std::io::{BufWriter, Write};
 
 // What can be wrong with a line.
+// stays: no value that may be missing, but one of two things that are wanted
 #[derive(Clone, Copy)]
 pub(crate) enum Wanted {
     // no tab stands between a path and a stack
@@ -22,6 +23,16 @@ pub(crate) enum Wanted {
     Name(NameFault),
 }
 
+impl fmt::Display for Wanted {
+    fn fmt<W: fmt::Write>(&self, f: &mut fmt::Formatter<W>) -> fmt::Result {
+        match self {
+            Wanted::Tab => f.write_str("a tab is expected between a path and a stack"),
+            Wanted::Name(fault) => write!(f, "{}", NameExpected { fault: *fault }),
+        }
+    }
+}
+
+// stays: as the `Flaw` of plays, with what this report wants
 // `at`: how many bytes of the line stand before what was found.
 #[derive(Clone, Copy)]
 pub(crate) struct Flaw {
@@ -29,93 +40,61 @@ pub(crate) struct Flaw {
     pub wanted: Wanted,
 }
 
-// The scopes of some names, as far as there is room, and how many; the names stand at `offset` in their line.
-fn scopes_of(
-    repository: &mut ScopeRepository,
-    names: &[u8],
-    offset: usize,
-    scopes: &mut [Scope],
-) -> Result<usize, Flaw>
-    ensures { IfOk result (λ n. n ≤ length scopes.new) }
-{
-    let mut rest = names;
-    for i in 0..scopes.len() {
-        let (name, more) = word(rest);
-        if name.is_empty() {
-            return Ok(i);
-        }
-        match repository.build(name) {
-            Ok(scope) => scopes[i] = scope,
-            Err(fault) => {
-                let behind = name.len().saturating_add(more.len());
-                return Err(Flaw {
-                    at: offset.saturating_add(names.len().saturating_sub(behind)),
-                    wanted: Wanted::Name(fault),
-                });
-            }
-        }
-        rest = more;
-    }
-    Ok(scopes.len())
+// A path, and the stack to lay it on; of either, one scope more is read than can count.
+#[derive(Drop)]
+struct Task {
+    path: ArrayVec<Scope, 65>,
+    stack: ArrayVec<Scope, 65>,
 }
 
-// Ranks the path on the stack of a line; of either, one scope more is read than can count.
-fn rank(
-    out: &mut impl Write,
-    repository: &mut ScopeRepository,
-    line: &[u8],
-) -> Result<Result<bool, Flaw>, Stopped> {
-    let (names, stack_names) = split(line, b'\t');
-    let offset = names.len().saturating_add(1);
-    if offset > line.len() {
-        return Ok(Err(Flaw {
-            at: line.len(),
-            wanted: Wanted::Tab,
-        }));
+// What is wrong with a name of a text that stands at `offset` in its line.
+fn flaw_of(refused: Refused, offset: usize) -> Flaw {
+    Flaw {
+        at: offset.saturating_add(refused.at),
+        wanted: Wanted::Name(refused.fault),
     }
-    let mut path = [Scope::empty(); 65];
-    let mut stack = [Scope::empty(); 65];
-    let count = match scopes_of(repository, names, 0, &mut path) {
-        Ok(count) => count,
-        Err(flaw) => return Ok(Err(flaw)),
-    };
-    let height = match scopes_of(repository, stack_names, offset, &mut stack) {
-        Ok(height) => height,
-        Err(flaw) => return Ok(Err(flaw)),
-    };
-    Ok(Ok(print_ranks(out, &path[0..count], &stack[0..height])?))
 }
 
-// A line without the carriage return that ends it in some files.
-fn without_return(line: &[u8]) -> &[u8] {
-    match line {
-        [text @ .., b'\r'] => text,
-        _ => line,
+impl Task {
+    // The path and the stack of a line.
+    fn of_line(repository: &mut ScopeRepository, line: &[u8]) -> Result<Task, Flaw> {
+        let (names, stack_names) = split(line, b'\t');
+        let offset = names.len().saturating_add(1);
+        if offset > line.len() {
+            return Err(Flaw {
+                at: line.len(),
+                wanted: Wanted::Tab,
+            });
+        }
+        let path = scopes_of(repository, names).map_err(|refused| flaw_of(refused, 0))?;
+        let stack = scopes_of(repository, stack_names).map_err(|refused| flaw_of(refused, offset))?;
+        Ok(Task { path, stack })
     }
 }
 
 // Ranks line by line, to the end or to the first line with a flaw.
-fn report(rt: &HostRuntime, out: &mut impl Write, path: &str, text: &[u8]) -> Result<(), Stopped> {
+fn report<W: Write>(rt: &HostRuntime, out: &mut W, path: &str, text: &[u8]) -> Result<(), Stopped> {
     let mut repository = ScopeRepository::new();
-    let mut number: usize = 0;
     let mut laid: usize = 0;
-    let mut rest = text;
-    while !rest.is_empty() {
-        let (whole, after) = split(rest, b'\n');
+    for (index, whole) in cut(text, b'\n').enumerate() {
         let line = without_return(whole);
-        number = number.saturating_add(1);
-        match rank(out, &mut repository, line)? {
-            Ok(true) => laid = laid.saturating_add(1),
-            Ok(false) => {}
+        match Task::of_line(&mut repository, line) {
+            Ok(task) => {
+                let ranked = print_ranks(out, task.path.as_slice(), task.stack.as_slice())?;
+                laid = laid.saturating_add(usize::from(ranked));
+            }
             Err(flaw) => {
-                out.flush()?;
-                print_flaw(&mut rt.stderr(), path, number, line, flaw)?;
-                return Err(Stopped::Told);
+                let found = Found {
+                    path,
+                    number: index + 1,
+                    line,
+                    at: flaw.at,
+                };
+                return stop(rt, out, found, &flaw.wanted);
             }
         }
-        rest = after;
     }
-    sum_up(out, number, laid)
+    sum_up(out, cut(text, b'\n').count(), laid)
 }
 
 pub fn run(rt: &HostRuntime, path: &str) -> Result<(), Stopped> {

@@ -6,9 +6,11 @@ ghost use Rattle.scopes.specs.declared.scope.Scope.{Scope};
 ghost use Rattle.rankings.specs.Layings.{atoms, FitsAt};
 ghost use Rattle.rankings.specs.Ranks.{near_atoms, near_position, Lone, Answered, Answers};
 
+use arrayvec::ArrayVec;
 use scopes::Scope;
 
 // A ranking: functions that stand alone. Nothing is refused, and nothing is asked of a caller.
+// stays: a path and a stack are what each ranking is asked of, and no fact ties the two
 pub trait Ranking {
     type Rank: Copy;
 
@@ -46,17 +48,16 @@ pub trait Ranking {
 }
 
 // One of a path's scopes as it is laid: its atoms, and its position on the stack.
-#[derive(Clone, Copy)]
+#[derive(Clone, Copy, Default)]
 pub struct Laid {
     pub atoms: u32,
     pub position: usize,
 }
 
-// A path as it is laid: its first `count` entries are the path's scopes, in their order; the others say nothing.
-#[derive(Clone, Copy)]
+// A path as it is laid: its scopes, in their order.
+#[derive(Drop)]
 pub struct Places {
-    pub laid: [Laid; 64],
-    pub count: usize,
+    pub laid: ArrayVec<Laid, 64>,
 }
 
 // The nearest of 1 to 8 atoms.

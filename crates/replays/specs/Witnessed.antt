@@ -1,5 +1,5 @@
 -- What a telling makes of a mirror and of a witness.
-use Rattle.std.specs.Prelude.{◌≡◌, ◌+◌, ◌-◌, ◌^◌, min, List, take}
+use Rattle.std.specs.Prelude.{◌≡◌, ◌+◌, ◌-◌, ◌^◌, min, List}
 use Rattle.scopes.specs.declared.scope.Scope.{Scope}
 use Rattle.stacks.specs.declared.ops.BasicScopeStackOp.{BasicScopeStackOp}
 use Rattle.stacks.specs.Tellings.{moved}
@@ -8,7 +8,7 @@ use Rattle.replays.specs.declared.witness.Witness.{Witness}
 
 -- the scopes that a mirror was told, lowest first
 abbrev pub mirrored : Mirror → List Scope
-mirrored m = take m.height m.scopes
+mirrored m = m.scopes.items
 
 -- one telling more: a witness's scopes move, and it is counted
 pub record Told (op : BasicScopeStackOp) (w v : Witness) : Type 0 where

@@ -3,62 +3,23 @@
 #![tactic(auto)]
 
 mod mirror;
-mod names;
 mod scores;
 mod told;
 mod witness;
 
+ghost use Rattle.std.specs.Prelude.{◌≡◌, OnOk};
+
 use crate::scores::Scores;
 use crate::told::Tellings;
-use lines::split;
-use repository::ScopeRepository;
+use records::{Tally, print, replay};
 use std::io::ErrorKind;
 use std::{fs, io};
 
-// How many records there are, and how many of them agree.
-#[derive(Clone, Copy)]
-struct Tally {
-    records: usize,
-    agree: usize,
-}
-
-// A kind of record, one a line.
-pub(crate) trait Record {
-    // Whether these crates answer what the record says.
-    fn agrees(repository: &mut ScopeRepository, record: &[u8]) -> bool;
-}
-
-fn replay<R: Record>(text: &[u8]) -> Tally {
-    let mut repository = ScopeRepository::new();
-    let mut tally = Tally {
-        records: 0,
-        agree: 0,
-    };
-    let mut rest = text;
-    while !rest.is_empty() {
-        let (record, after) = split(rest, b'\n');
-        if R::agrees(&mut repository, record) {
-            tally.agree += 1;
-        }
-        tally.records += 1;
-        rest = after;
-    }
-    tally
-}
-
-fn print(rt: &HostRuntime, what: &str, with: &str, tally: Tally) -> io::Result<()> {
-    println!(rt;
-        "{what}: {} of {} agree with {with}",
-        tally.agree, tally.records
-    )?;
-    if tally.agree < tally.records {
-        return Err(io::Error::from(ErrorKind::InvalidData));
-    }
-    Ok(())
-}
-
 // Records that are wrong on purpose: none may agree.
-fn print_none(rt: &HostRuntime, what: &str, tally: Tally) -> io::Result<()> {
+// stays: it promises the opposite of `print`, in other words
+fn print_none(rt: &HostRuntime, what: &str, tally: Tally) -> io::Result<()>
+    ensures { OnOk result (tally.agree ≡ 0) }
+{
     println!(rt;
         "{what}: {} of {} agree, and none should",
         tally.agree, tally.records

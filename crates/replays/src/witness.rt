@@ -1,9 +1,10 @@
 // A kind of hook that compares each telling with the recorded one.
+ghost use Rattle.std.specs.Prelude.{◌≡◌, ◌+◌, ◌-◌, ◌^◌, min};
 ghost use Rattle.replays.specs.Witnessed.{mirrored, Told};
 
 use crate::mirror::Mirror;
-use crate::names::is_written;
-use lines::split;
+use lines::{cut, split};
+use records::is_written;
 use repository::ScopeRepository;
 use scopes::Scope;
 use stacks::Hook;
@@ -23,15 +24,9 @@ pub struct Witness {
     pub agree: usize,
 }
 
-// The telling of an index, each being ended by a semicolon.
+// The telling of an index, each being ended by a semicolon; empty where there is none.
 fn telling(tellings: &[u8], index: usize) -> &[u8] {
-    let mut rest = tellings;
-    for _ in 0..index {
-        let (_, more) = split(rest, b';');
-        rest = more;
-    }
-    let (found, _) = split(rest, b';');
-    found
+    cut(tellings, b';').nth(index).unwrap_or(b"")
 }
 
 // Whether these names, with a blank between, are those of some scopes.
@@ -60,12 +55,14 @@ fn is_pop(shown: &Recorded<'_>, index: usize, stack: &[Scope]) -> bool {
     verb == b"pop".as_slice() && are_written(shown.repository, stack, names)
 }
 
-// One more where it holds.
-fn counted(count: usize, holds: bool) -> usize {
-    if holds {
-        count.saturating_add(1)
-    } else {
-        count
+impl Witness {
+    // Counts one telling more, and whether it is the recorded one.
+    fn count(&mut self, agrees: bool)
+        ensures told { self.new.told ≡ min (self.old.told + 1) (2 ^ 64 - 1) }
+        ensures mirror { self.new.mirror ≡ self.old.mirror }
+    {
+        self.agree = self.agree.saturating_add(usize::from(agrees));
+        self.told = self.told.saturating_add(1);
     }
 }
 
@@ -79,14 +76,12 @@ impl<'a> Hook<Recorded<'a>> for Witness {
     ghost moves = { λ shown op stack w v told room. (told.scopes, tt) };
 
     fn push(&mut self, shown: &Recorded<'a>, stack: &[Scope], scope: Scope) {
-        self.agree = counted(self.agree, is_push(shown, self.told, stack, scope));
-        self.told = self.told.saturating_add(1);
+        self.count(is_push(shown, self.told, stack, scope));
         self.mirror.push(shown, stack, scope);
     }
 
     fn pop(&mut self, shown: &Recorded<'a>, stack: &[Scope]) {
-        self.agree = counted(self.agree, is_pop(shown, self.told, stack));
-        self.told = self.told.saturating_add(1);
+        self.count(is_pop(shown, self.told, stack));
         self.mirror.pop(shown, stack);
     }
 }

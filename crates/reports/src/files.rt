@@ -28,6 +28,7 @@ impl From<AllocError> for Stopped {
     }
 }
 
+// stays: the kinds are std's, which prints them in its own words
 fn reason(kind: ErrorKind) -> Option<&'static str> {
     match kind {
         ErrorKind::NotFound => Some("there is no such file"),

@@ -7,7 +7,7 @@ pub mod files;
 pub mod found;
 
 pub use files::{Stopped, read};
-pub use found::{name_words, print_bytes, print_found};
+pub use found::{Found, Shown, stop};
 
 // One word for a count of one, another for any other.
 pub fn plural(count: usize, one: &'static str, many: &'static str) -> &'static str

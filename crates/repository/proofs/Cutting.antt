@@ -1,8 +1,31 @@
 -- Names cut at their dots, and the dots at their end.
-use Rattle.std.proofs.Common.{◌≡◌, ℕ, ◌+◌, ◌-◌, ◌<◌, ◌≤◌, true, false, cond, ◌&&◌, eqb, ltb, List, [], ◌∷◌, ◌++◌, length, get_or, take, drop, sym, refl, ap, ◌∙◌, ⊎_elim, arith}
-use Rattle.std.proofs.lemmas.List.{take_more, append-nil, append_assoc, get_or-drop, length-drop, drop-drop, at_drop_more, at_drop_all}
-use Rattle.std.proofs.lemmas.Bool.{cases_lt, cond-true, cond-false, eq-eqb, ne_eqb, lt-ltb, le-ltb, and_left}
-use Rattle.repository.specs.Names.{Atoms, dots, stripped, before, pieces}
+use Rattle.std.specs.Slice.Iter as slice
+use Rattle.std.proofs.Common.{◌≡◌, ℕ, zero, suc, ◌+◌, ◌<◌, ◌≤◌, Bool, true, false, cond, ◌&&◌, eqb, ltb, List, [], ◌∷◌, ◌++◌, length, get_or, take, drop, sym, refl, ap, ◌∙◌, subst, arith}
+use denote.Param.Members.{Mut}
+use denote.Ref.{Bor}
+use Rattle.std.specs.Fn.{CalledAt}
+use Rattle.std.specs.Str.{IsAscii, IsNotAscii}
+use Rattle.std.specs.List.{AllByRecursion, enumerate_from, slice_split, onto_first}
+use Rattle.std.proofs.lemmas.Iterator.{YieldsList}
+use Rattle.std.proofs.lemmas.Iterator.Splits.{YieldsList-from_slice_split}
+use Rattle.std.proofs.lemmas.List.{get_or_default, take_more, take-append-drop, append-nil, append_assoc, get_or-drop, length-drop}
+use Rattle.std.proofs.lemmas.List.FromFn.{get_or-enumerate_from, length-enumerate_from}
+use Rattle.std.proofs.lemmas.Bool.{cond-false, ne_eqb, and_left, and_right, and_from, lt-ltb, le-ltb}
+use Rattle.repository.specs.Names.{Atoms, ascii, dots, stripped, before, pieces}
+
+-- ---- bytes below 128
+
+pub ascii_if : (bs : List ℕ) → IsAscii bs → ascii bs ≡ true
+ascii_if [] h = refl
+ascii_if (b ∷ bs) h = and_from (ltb b 128) (ascii bs) (lt-ltb b 128 (h 0)) (ascii_if bs (λ i. h (suc i)))
+
+not_ascii_at : (bs : List ℕ) (i : ℕ) → 128 ≤ get_or bs i 0 → ascii bs ≡ false
+not_ascii_at [] i h = absurd (omega arith)
+not_ascii_at (b ∷ bs) zero h = and_left (ltb b 128) (ascii bs) (le-ltb b 128 h)
+not_ascii_at (b ∷ bs) (suc i) h = and_right (ltb b 128) (ascii bs) (not_ascii_at bs i h)
+
+pub not_ascii_if : (bs : List ℕ) → IsNotAscii bs → ascii bs ≡ false
+not_ascii_if bs h = not_ascii_at bs h.0 h.1
 
 -- ---- pieces
 
@@ -19,80 +42,38 @@ pub some_pieces : (bs : List ℕ) → 0 < length (pieces bs)
 some_pieces [] = omega arith
 some_pieces (b ∷ bs) = elim (eqb b 46) as (λ t. 0 < length (cond t ([] ∷ pieces bs) (before b (pieces bs)))) [ true ↦ omega arith | false ↦ some_before b (pieces bs) ]
 
-length_before : (b : ℕ) (ps : Atoms) → 0 < length ps → length (before b ps) ≡ length ps
-length_before b [] h = absurd (omega arith)
-length_before b (p ∷ ps) h = refl
-
 pub behind_nil : (ps : Atoms) → 0 < length ps → behind [] ps ≡ ps
 behind_nil [] h = absurd (omega arith)
 behind_nil (p ∷ ps) h = refl
 
-behind_before : (p : List ℕ) (b : ℕ) (ps : Atoms) → behind p (before b ps) ≡ behind (p ++ b ∷ []) ps
-behind_before p b [] = refl
-behind_before p b (q ∷ qs) = ap (λ l. l ∷ qs) (sym (append_assoc p (b ∷ []) q))
+-- std's words for the same
+onto_before : (b : ℕ) (ps : Atoms) → onto_first b ps ≡ before b ps
+onto_before b [] = refl
+onto_before b (p ∷ ps) = refl
 
-pub length_dot : (b : ℕ) (bs : List ℕ) → b ≡ 46 → length (pieces (b ∷ bs)) ≡ length (pieces bs) + 1
-length_dot b bs e = ap length (cond-true (eqb b 46) ([] ∷ pieces bs) (before b (pieces bs)) (eq-eqb b 46 e)) ∙ omega arith
+pub split_pieces : (bs : List ℕ) → slice_split (λ b. eqb b 46) bs ≡ pieces bs
+split_pieces [] = refl
+split_pieces (b ∷ bs) =
+    ap (λ ps. cond (eqb b 46) ([] ∷ ps) (onto_first b ps)) (split_pieces bs) ∙ ap (cond (eqb b 46) ([] ∷ pieces bs)) (onto_before b (pieces bs))
 
-pub length_other : (b : ℕ) (bs : List ℕ) → (b ≡ 46 → ⊥) → length (pieces (b ∷ bs)) ≡ length (pieces bs)
-length_other b bs e = ap length (cond-false (eqb b 46) ([] ∷ pieces bs) (before b (pieces bs)) (ne_eqb b 46 e)) ∙ length_before b (pieces bs) (some_pieces bs)
+-- a text that is split at its dots gives its pieces
+pub YieldsList-from_pieces : {F : Type 0} {s : _} (g : Mut F (Bor ℕ × Unit {0}) Bool) {f : F} (text : List ℕ) → slice.split_rest s ≡ text → slice.split_done s ≡ false → slice.split_callee s ≡ f → ((x : ℕ) (b : Bool) (q : F) → CalledAt g f x b q → (q ≡ f) × (b ≡ eqb x 46)) → YieldsList (slice.split_steps g) (λ x. x.now) s (pieces text)
+YieldsList-from_pieces {s = s} g text e d k h =
+    subst (YieldsList (slice.split_steps g) (λ x. x.now) s) (split_pieces text) (YieldsList-from_slice_split g (λ b. eqb b 46) text e d k h)
 
-module _ (t : List ℕ) (start : ℕ) where
-  abbrev pub Ahead : ℕ → Type 0
-  Ahead i = pieces (drop start t) ≡ behind (take (i - start) (drop start t)) (pieces (drop i t))
+-- a turn of a `for` over the pieces ps: it has come to the n-th
+abbrev pub ComeTo : Atoms → ℕ → List ℕ → Type 0
+ComeTo ps n x = (n < length ps) × (x ≡ get_or ps n [])
 
-  pub ahead_none : Ahead start
-  ahead_none = sym (ap (λ n. behind (take n (drop start t)) (pieces (drop start t))) (let e : start - start ≡ 0 = omega arith in e) ∙ behind_nil (pieces (drop start t)) (some_pieces (drop start t)))
+pub come_to : (ps : Atoms) (n : ℕ) (x : List ℕ) → (n < length ps) × (x ≡ get_or ps n x) → ComeTo ps n x
+come_to ps n x h = (h.0, h.1 ∙ get_or_default ps n x [] h.0)
 
-  pub ahead_more : (i : ℕ) → start ≤ i → i < length t → (get_or t i 0 ≡ 46 → ⊥) → Ahead i → Ahead (i + 1)
-  ahead_more i le lt ne h =
-      let e : i + 1 - start ≡ i - start + 1 = omega arith in
-      let inside : i - start < length (drop start t) = omega (arith, length-drop start t) in
-      let back : start + (i - start) ≡ i = omega arith in
-      let read : get_or (drop start t) (i - start) 0 ≡ get_or t i 0 = get_or-drop start t (i - start) 0 ∙ ap (λ n. get_or t n 0) back in
-      let grown : take (i + 1 - start) (drop start t) ≡ take (i - start) (drop start t) ++ get_or t i 0 ∷ [] = ap (λ n. take n (drop start t)) e ∙ take_more (drop start t) (i - start) 0 inside ∙ ap (λ x. take (i - start) (drop start t) ++ x ∷ []) read in
-      h
-      ∙ ap (behind (take (i - start) (drop start t))) (at_drop_more pieces t i 0 lt ∙ cond-false (eqb (get_or t i 0) 46) ([] ∷ pieces (drop (i + 1) t)) (before (get_or t i 0) (pieces (drop (i + 1) t))) (ne_eqb _ 46 ne))
-      ∙ behind_before (take (i - start) (drop start t)) (get_or t i 0) (pieces (drop (i + 1) t))
-      ∙ ap (λ l. behind l (pieces (drop (i + 1) t))) (sym grown)
-
-  abbrev pub Cut : ℕ → Type 0
-  Cut r = pieces (drop start t) ≡ take (r - start) (drop start t) ∷ cond (ltb r (length t)) (pieces (drop (r + 1) t)) []
-
-  pub cut_dot : (i : ℕ) → i < length t → get_or t i 0 ≡ 46 → Ahead i → Cut i
-  cut_dot i lt e h =
-      h
-      ∙ ap (behind (take (i - start) (drop start t))) (at_drop_more pieces t i 0 lt ∙ cond-true (eqb (get_or t i 0) 46) ([] ∷ pieces (drop (i + 1) t)) (before (get_or t i 0) (pieces (drop (i + 1) t))) (eq-eqb _ 46 e))
-      ∙ (λ k. append-nil (take (i - start) (drop start t)) k ∷ sym (cond-true (ltb i (length t)) (pieces (drop (i + 1) t)) [] (lt-ltb i (length t) lt)) k)
-
-  pub cut_end : (i : ℕ) → length t ≤ i → Ahead i → Cut i
-  cut_end i le h =
-      h
-      ∙ ap (behind (take (i - start) (drop start t))) (at_drop_all pieces t i le)
-      ∙ (λ k. append-nil (take (i - start) (drop start t)) k ∷ sym (cond-false (ltb i (length t)) (pieces (drop (i + 1) t)) [] (le-ltb i (length t) le)) k)
-
--- the next piece, where there is one
-module _ (t : List ℕ) (start end k : ℕ) (cut : Cut t start end) (at : drop k (pieces t) ≡ pieces (drop start t)) where
-  abbrev Rest : Atoms
-  Rest = cond (ltb end (length t)) (pieces (drop (end + 1) t)) []
-
-  rest : drop (k + 1) (pieces t) ≡ Rest
-  rest = sym (drop-drop 1 k (pieces t)) ∙ ap (drop 1) (at ∙ cut)
-
-  pub not_last : k + 1 < length (pieces t) → end < length t
-  not_last more =
-      ⊎_elim
-      (λ lt. lt)
-      (λ le. let none : length Rest ≡ 0 = ap length (cond-false (ltb end (length t)) (pieces (drop (end + 1) t)) [] (le-ltb end (length t) le)) in absurd (omega (arith, ap length rest, length-drop (k + 1) (pieces t), none)))
-      (cases_lt end (length t))
-
-  pub next : k + 1 < length (pieces t) → drop (k + 1) (pieces t) ≡ pieces (drop (end + 1) t)
-  next more = rest ∙ cond-true (ltb end (length t)) (pieces (drop (end + 1) t)) [] (lt-ltb end (length t) (not_last more))
-
-  pub piece_is : take (end - start) (drop start t) ≡ get_or (pieces t) k []
-  piece_is =
-      let e : k + 0 ≡ k = omega arith in
-      sym (ap (λ n. get_or (pieces t) n []) (sym e) ∙ sym (get_or-drop k (pieces t) 0 []) ∙ ap (λ l. get_or l 0 []) (at ∙ cut))
+-- the same with their indices
+pub numbered : (ps : Atoms) (n i : ℕ) (x : List ℕ) → (n < length (enumerate_from 0 ps)) × ((i, x) ≡ get_or (enumerate_from 0 ps) n (i, x)) → (i ≡ n) × ComeTo ps n x
+numbered ps n i x h =
+    let lt : n < length ps = omega (arith, h.0, length-enumerate_from 0 ps) in
+    let e : (i, x) ≡ (0 + n, get_or ps n x) = h.1 ∙ get_or-enumerate_from 0 ps n (i, x) lt in
+    (omega (arith, ap (λ (p : ℕ × List ℕ). p.0) e), come_to ps n x (lt, ap (λ (p : ℕ × List ℕ). p.1) e))
 
 -- ---- the dots at the end
 
@@ -112,14 +93,26 @@ pub strip_other : (xs : List ℕ) (b : ℕ) → (b ≡ 46 → ⊥) → stripped 
 strip_other [] b ne = cond-false (dots (b ∷ [])) [] (b ∷ []) (no_dots [] b ne)
 strip_other (x ∷ xs) b ne = cond-false (dots (x ∷ (xs ++ b ∷ []))) [] (x ∷ stripped (xs ++ b ∷ [])) (no_dots (x ∷ xs) b ne) ∙ ap (λ l. x ∷ l) (strip_other xs b ne)
 
--- a trim by one more, and its end
-pub trim_more : (xs : List ℕ) (n : ℕ) → 0 < n → n ≤ length xs → get_or xs (n - 1) 0 ≡ 46 → stripped (take n xs) ≡ stripped xs → stripped (take (n - 1) xs) ≡ stripped xs
-trim_more xs n pos le dot h =
-    let e : n - 1 + 1 ≡ n = omega arith in
-    sym (strip_dot (take (n - 1) xs)) ∙ ap (λ x. stripped (take (n - 1) xs ++ x ∷ [])) (sym dot) ∙ ap stripped (sym (take_more xs (n - 1) 0 (omega arith))) ∙ ap (λ m. stripped (take m xs)) e ∙ h
+-- each is a dot
+abbrev pub Dots : List ℕ → Type 0
+Dots e = AllByRecursion (λ b. b ≡ 46) e
 
-pub trim_end : (xs : List ℕ) (n : ℕ) → 0 < n → n ≤ length xs → (get_or xs (n - 1) 0 ≡ 46 → ⊥) → stripped (take n xs) ≡ stripped xs → take n xs ≡ stripped xs
-trim_end xs n pos le ne h =
-    let e : n - 1 + 1 ≡ n = omega arith in
-    let s : take n xs ≡ take (n - 1) xs ++ get_or xs (n - 1) 0 ∷ [] = ap (λ m. take m xs) (sym e) ∙ take_more xs (n - 1) 0 (omega arith) in
-    s ∙ sym (strip_other (take (n - 1) xs) (get_or xs (n - 1) 0) ne) ∙ ap stripped (sym s) ∙ h
+dots_from : (xs : List ℕ) → ((k : ℕ) → k < length xs → get_or xs k 0 ≡ 46) → Dots xs
+dots_from [] h = tt
+dots_from (x ∷ xs) h = (h 0 (omega arith), dots_from xs (λ k lt. h (suc k) (omega arith)))
+
+pub strip_dots : (xs e : List ℕ) → Dots e → stripped (xs ++ e) ≡ stripped xs
+strip_dots xs [] h = ap stripped (append-nil xs)
+strip_dots xs (b ∷ e) h =
+    ap stripped (sym (append_assoc xs (b ∷ []) e)) ∙ strip_dots (xs ++ b ∷ []) e h.1 ∙ ap (λ x. stripped (xs ++ x ∷ [])) h.0 ∙ strip_dot xs
+
+-- where dots alone stand from n on
+pub strip_rest : (xs : List ℕ) (n : ℕ) → n ≤ length xs → ((k : ℕ) → n ≤ k → k < length xs → get_or xs k 0 ≡ 46) → stripped xs ≡ stripped (take n xs)
+strip_rest xs n le h =
+    let rest : Dots (drop n xs) = dots_from (drop n xs) (λ k lt. get_or-drop n xs k 0 ∙ h (n + k) (omega arith) (omega (arith, length-drop n xs))) in
+    ap stripped (sym (take-append-drop n xs)) ∙ strip_dots (take n xs) (drop n xs) rest
+
+-- and no dot at its place
+pub strip_last : (xs : List ℕ) (n : ℕ) → n < length xs → (get_or xs n 0 ≡ 46 → ⊥) → ((k : ℕ) → n + 1 ≤ k → k < length xs → get_or xs k 0 ≡ 46) → take (n + 1) xs ≡ stripped xs
+strip_last xs n lt ne h =
+    sym (strip_rest xs (n + 1) (omega arith) h ∙ ap stripped (take_more xs n 0 lt) ∙ strip_other (take n xs) (get_or xs n 0) ne ∙ sym (take_more xs n 0 lt))

@@ -1,11 +1,11 @@
 -- Cutting at dots undoes joining by dots, and joining undoes cutting.
 use Rattle.std.proofs.Common.{◌≡◌, ℕ, ◌+◌, ◌<◌, ◌≤◌, true, false, ◌&&◌, eqb, List, [], ◌∷◌, ◌++◌, length, get_or, take, sym, refl, ap, ◌∙◌, ⊎_elim, arith}
 use Rattle.std.specs.List.{flat_map, AllByRecursion}
-use Rattle.std.proofs.lemmas.List.{append-nil, append_assoc, length-append, length_push, take_more, take_all}
+use Rattle.std.proofs.lemmas.List.{append-nil, length-append, length_push, take_more, take_all}
 use Rattle.std.proofs.lemmas.Bool.{cases_Bool, cond-true, cond-false, ne_eqb, eqb-true, eqb-false, and_parts}
 use Rattle.repository.specs.Names.{Atom, Atoms, dots, stripped, before, pieces, cut, dotted}
 use Rattle.repository.specs.Laws.{Cuts, CutLaw}
-use Rattle.repository.proofs.Cutting.{behind, behind_nil, some_pieces, strip_dot, strip_other}
+use Rattle.repository.proofs.Cutting.{behind, behind_nil, some_pieces, strip_dot, strip_other, Dots, strip_dots}
 
 -- no byte is a dot
 abbrev Plain : Atom → Type 0
@@ -61,9 +61,6 @@ pieces_dotted a (b ∷ rest) h k =
 
 -- ---- the dots at the end
 
-abbrev Dots : List ℕ → Type 0
-Dots e = AllByRecursion (λ b. b ≡ 46) e
-
 all_dots : (xs : List ℕ) → dots xs ≡ true → Dots xs
 all_dots [] h = tt
 all_dots (x ∷ xs) h = let b = and_parts (eqb x 46) (dots xs) h in (eqb-true x 46 b.0, all_dots xs b.1)
@@ -80,11 +77,6 @@ split (x ∷ xs) =
     (λ (e : dots (x ∷ xs) ≡ true). record { ending = x ∷ xs; whole = ap (λ l. l ++ (x ∷ xs)) (sym (cond-true (dots (x ∷ xs)) [] (x ∷ stripped xs) e)); all = all_dots (x ∷ xs) e })
     (λ (e : dots (x ∷ xs) ≡ false). let r = split xs in record { ending = r.ending; whole = ap (λ l. x ∷ l) r.whole ∙ ap (λ l. l ++ r.ending) (sym (cond-false (dots (x ∷ xs)) [] (x ∷ stripped xs) e)); all = r.all })
     (cases_Bool (dots (x ∷ xs)))
-
-strip_dots : (xs e : List ℕ) → Dots e → stripped (xs ++ e) ≡ stripped xs
-strip_dots xs [] h = ap stripped (append-nil xs)
-strip_dots xs (b ∷ e) h =
-    ap stripped (sym (append_assoc xs (b ∷ []) e)) ∙ strip_dots (xs ++ b ∷ []) e h.1 ∙ ap (λ x. stripped (xs ++ x ∷ [])) h.0 ∙ strip_dot xs
 
 dots_stripped : (xs : List ℕ) → dots (stripped xs) ≡ dots xs
 dots_stripped [] = refl

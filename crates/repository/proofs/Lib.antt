@@ -1,10 +1,10 @@
--- Held: the atoms that lie under rising ends.
-pub mod Held
+-- Ends: the atoms that lie under rising ends.
+pub mod Ends
 -- Cutting: names cut at their dots, and the dots at their end.
 pub mod Cutting
 -- Places: which atoms are held, and where.
 pub mod Places
--- Builds: which refusal of a name applies.
+-- Builds: a name that is not refused, and its scope.
 pub mod Builds
 -- Owned: a repository's own facts.
 pub mod Owned

@@ -8,7 +8,7 @@ use Rattle.repository.specs.declared.tables.AtomTables.{AtomTables}
 use Rattle.repository.specs.Tables.{Rising, rises, Sound}
 use Rattle.repository.specs.Held.{atoms_of}
 use Rattle.repository.specs.Laws.{Later}
-use Rattle.repository.proofs.Held.{held_length, held_total}
+use Rattle.repository.proofs.Ends.{held_length, held_total}
 
 rising_from : (from : ℕ) (es : List ℕ) (top : ℕ) → rises from es top ≡ true → Rising from es top
 rising_from from [] top h = eqb-true from top h
@@ -32,3 +32,5 @@ now_later r = record {
   few = omega (arith, held_length r.counts r.tables (sound_in r), r.few);
   short = omega (arith, held_total r.counts r.tables (sound_in r), r.short);
 }
+
+pub ruleset owned = (sound_in, rises_in)

@@ -1,26 +1,17 @@
 -- Which atoms are held, and where.
-use Rattle.std.proofs.Common.{◌≡◌, ℕ, suc, ◌+◌, ◌<◌, ◌≤◌, Bool, true, false, cond, not, [], ◌∷◌, ◌++◌, length, get_or, take, drop, Decides, sym, refl, ap, ◌∙◌, ⊎_elim, arith}
+use Rattle.std.proofs.Common.{◌≡◌, ℕ, zero, suc, ◌+◌, ◌<◌, ◌≤◌, Bool, true, false, cond, not, ◌||◌, [], ◌∷◌, ◌++◌, length, get_or, take, drop, Some, None, Option, MatchOption, is_some, sym, refl, ap, ◌∙◌, ⊎_elim, arith}
 use Rattle.std.specs.Str.{bytes_eq}
-use Rattle.std.proofs.lemmas.List.{at_drop_more, get_or-take, length-take-le, take_more, append-nil, append_assoc, length-append, length_push, length-map, map_more}
+use Rattle.std.specs.List.{list_any}
+use Rattle.std.proofs.lemmas.List.{length_push, at_drop_more, length-take-le, take_more, append-nil, append_assoc, length-append, length-map, map_more}
 use Rattle.std.proofs.lemmas.Slice.Eq.{bytes_eq-Decides}
-use Rattle.std.proofs.lemmas.Bool.Decides.{same_from_decides}
 use Rattle.std.proofs.lemmas.Bool.{cond-true, cond-false, cases_Bool, true≢false, not-true, not-false}
 use Rattle.repository.specs.Names.{Atom, Atoms}
 use Rattle.repository.specs.Atoms.{has, place, news, total, seen, learned, fields_for}
 
--- a search among the first n of some atoms, at the i-th of them
-module _ (ps : Atoms) (n i : ℕ) (lt : i < n) (le : n ≤ length ps) (a x : Atom) (is : x ≡ get_or ps i []) (r : Bool) (d : Decides r (x ≡ a)) where
-  here : has (drop i (take n ps)) a ≡ cond r true (has (drop (i + 1) (take n ps)) a)
-  here =
-      at_drop_more (λ l. has l a) (take n ps) i [] (omega (arith, length-take-le n ps le))
-      ∙ ap (λ y. cond (bytes_eq y a) true (has (drop (i + 1) (take n ps)) a)) (get_or-take n ps i [] lt ∙ sym is)
-      ∙ ap (λ t. cond t true (has (drop (i + 1) (take n ps)) a)) (sym (same_from_decides r _ d (bytes_eq-Decides x a)))
-
-  pub among_now : r ≡ true → has (drop i (take n ps)) a ≡ true
-  among_now e = here ∙ cond-true r _ _ e
-
-  pub among_next : r ≡ false → has (drop i (take n ps)) a ≡ has (drop (i + 1) (take n ps)) a
-  among_next e = here ∙ cond-false r _ _ e
+-- std's words for the same
+pub has_any : (xs : Atoms) (a : Atom) → list_any (λ x. bytes_eq x a) xs ≡ has xs a
+has_any [] a = refl
+has_any (x ∷ xs) a = elim (bytes_eq x a) as (λ t. (t || list_any (λ y. bytes_eq y a) xs) ≡ cond t true (has xs a)) [ true ↦ refl | false ↦ has_any xs a ]
 
 -- ---- what is held
 
@@ -88,6 +79,32 @@ place_at (x ∷ xs) a h =
     (λ (e : bytes_eq x a ≡ false). ap (λ n. get_or (x ∷ xs) n []) (cond-false (bytes_eq x a) 0 (suc (place xs a)) e) ∙ place_at xs a (simp e at h))
     (cases_Bool (bytes_eq x a))
 
+-- a search for the first that is a
+place_first : (xs : Atoms) (a : Atom) (i : ℕ) → i < length xs → bytes_eq (get_or xs i []) a ≡ true → ((k : ℕ) → k < i → bytes_eq (get_or xs k []) a ≡ false) → (i ≡ place xs a) × (has xs a ≡ true)
+place_first [] a i lt e h = absurd (omega arith)
+place_first (x ∷ xs) a zero lt e h = (sym (cond-true _ 0 _ e), cond-true _ true _ e)
+place_first (x ∷ xs) a (suc i) lt e h =
+    let r = place_first xs a i (omega arith) e (λ k lt. h (suc k) (omega arith)) in
+    let ne : bytes_eq x a ≡ false = h 0 (omega arith) in
+    (ap suc r.0 ∙ sym (cond-false _ 0 (suc (place xs a)) ne), cond-false _ true (has xs a) ne ∙ r.1)
+
+place_none : (xs : Atoms) (a : Atom) → ((k : ℕ) → k < length xs → bytes_eq (get_or xs k []) a ≡ false) → has xs a ≡ false
+place_none [] a h = refl
+place_none (x ∷ xs) a h = cond-false _ true (has xs a) (h 0 (omega arith)) ∙ place_none xs a (λ k lt. h (suc k) (omega arith))
+
+abbrev pub Found : Atoms → Atom → Option ℕ → Type 0
+Found xs a r = MatchOption r (has xs a ≡ false) (λ i. (i ≡ place xs a) × (has xs a ≡ true))
+
+-- as `find` over the numbers below n has it
+pub found : (xs : Atoms) (a : Atom) (n : ℕ) (r : Option ℕ) → n ≡ length xs → MatchOption r ((k : ℕ) → 0 ≤ k → k < n → bytes_eq (get_or xs k []) a ≡ false) (λ i. (0 ≤ i) × (i < n) × (bytes_eq (get_or xs i []) a ≡ true) × ((k : ℕ) → 0 ≤ k → k < i → bytes_eq (get_or xs k []) a ≡ false)) → Found xs a r
+found xs a n None e h = place_none xs a (λ k lt. h k (omega arith) (omega arith))
+found xs a n (Some i) e h = place_first xs a i (omega (arith, h.1)) h.2 (λ k lt. h.3 k (omega arith) lt)
+
+-- whether it was found
+pub found_has : (xs : Atoms) (a : Atom) (r : Option ℕ) → Found xs a r → has xs a ≡ is_some r
+found_has xs a None h = h
+found_has xs a (Some i) h = h.1
+
 pub place_append : (xs ys : Atoms) (a : Atom) → has xs a ≡ true → place (xs ++ ys) a ≡ place xs a
 place_append [] ys a h = absurd (true≢false (sym h))
 place_append (x ∷ xs) ys a h =
@@ -134,49 +151,49 @@ learned_long held ps = (
 pub learned_place : (held ps : Atoms) (a : Atom) → has held a ≡ true → place (learned held ps) a ≡ place held a
 learned_place held ps a h = ap (λ l. place l a) (learned_news held ps) ∙ place_append held (news held ps) a h
 
-pub seen_new : (held : Atoms) (a : Atom) → has held a ≡ false → seen held a ≡ held ++ a ∷ []
-seen_new held a e = cond-false (has held a) held (held ++ a ∷ []) e
-
--- ---- whether one of a name's atoms is new, by what is held and what stands before it
-
-pub not_new : (held xs : Atoms) (a : Atom) → has held a ≡ true → not (has (learned held xs) a) ≡ false
-not_new held xs a e = ap not (has_learned held xs a ∙ cond-true (has held a) true (has xs a) e)
-
-pub new_by : (held xs : Atoms) (a : Atom) → has held a ≡ false → not (has (learned held xs) a) ≡ not (has xs a)
-new_by held xs a e = ap not (has_learned held xs a ∙ cond-false (has held a) true (has xs a) e)
-
--- one more of the atoms ps
-module _ (held ps : Atoms) (i : ℕ) (lt : i < length ps) where
+-- one more of the atoms ps, where a loop over them has come to the i-th of them: with it there are m
+module _ (held ps : Atoms) (i m : ℕ) (x : Atom) (lt : i < length ps) (is : x ≡ get_or ps i []) (next : m ≡ i + 1) where
   abbrev SoFar : Atoms
   SoFar = learned held (take i ps)
 
-  pub none_new : not (has SoFar (get_or ps i [])) ≡ false → learned held (take (i + 1) ps) ≡ SoFar
-  none_new e = learned_more held ps i lt ∙ cond-true _ SoFar _ (not-false _ e)
+  with_it : learned held (take m ps) ≡ seen SoFar x
+  with_it = ap (λ n. learned held (take n ps)) next ∙ learned_more held ps i lt ∙ ap (seen SoFar) (sym is)
 
-  one_new : not (has SoFar (get_or ps i [])) ≡ true → learned held (take (i + 1) ps) ≡ SoFar ++ get_or ps i [] ∷ []
-  one_new e = learned_more held ps i lt ∙ cond-false _ SoFar _ (not-true _ e)
+  -- where j is that place too
+  module _ (j : ℕ) (there : j ≡ i) where
+    pub none_new : not (has (learned held (take j ps)) x) ≡ false → learned held (take m ps) ≡ SoFar
+    none_new e = with_it ∙ cond-true _ SoFar _ (not-false _ (ap (λ n. not (has (learned held (take n ps)) x)) (sym there) ∙ e))
 
-  pub new_length : not (has SoFar (get_or ps i [])) ≡ true → length (learned held (take (i + 1) ps)) ≡ length SoFar + 1
-  new_length e = ap length (one_new e) ∙ length_push SoFar (get_or ps i [])
-
-  pub new_total : not (has SoFar (get_or ps i [])) ≡ true → total (learned held (take (i + 1) ps)) ≡ total SoFar + length (get_or ps i [])
-  new_total e = ap total (one_new e) ∙ total_append SoFar (get_or ps i [] ∷ []) ∙ omega arith
+    pub one_new : not (has (learned held (take j ps)) x) ≡ true → learned held (take m ps) ≡ SoFar ++ x ∷ []
+    one_new e = with_it ∙ cond-false _ SoFar _ (not-true _ (ap (λ n. not (has (learned held (take n ps)) x)) (sym there) ∙ e))
 
   -- where the later ones are to be learned too
-  module _ (now all : Atoms) (same : learned now (drop i ps) ≡ all) (x : Atom) (is : x ≡ get_or ps i []) where
-    pub onward : learned (seen now x) (drop (i + 1) ps) ≡ all
-    onward = ap (λ y. learned (seen now y) (drop (i + 1) ps)) is ∙ sym (at_drop_more (learned now) ps i [] lt) ∙ same
+  module _ (now all : Atoms) (same : learned now (drop i ps) ≡ all) where
+    pub onward : learned (seen now x) (drop m ps) ≡ all
+    onward = (λ k. learned (seen now (is k)) (drop (next k) ps)) ∙ sym (at_drop_more (learned now) ps i [] lt) ∙ same
 
     pub room : (length (seen now x) ≤ length all) × (total (seen now x) ≤ total all)
-    room = let l = learned_long (seen now x) (drop (i + 1) ps) in (omega (arith, l.0, ap length onward), omega (arith, l.1, ap total onward))
+    room = let l = learned_long (seen now x) (drop m ps) in (omega (arith, l.0, ap length onward), omega (arith, l.1, ap total onward))
 
     pub below_all : place (seen now x) x < length all
     below_all = omega (arith, place_below (seen now x) x (has_seen now x), room.0)
 
-    pub fields_more : fields_for all (take (i + 1) ps) ≡ fields_for all (take i ps) ++ (place (seen now x) x + 1) ∷ []
+    pub fields_more : fields_for all (take m ps) ≡ fields_for all (take i ps) ++ (place (seen now x) x + 1) ∷ []
     fields_more =
-        map_more (λ a. place all a + 1) ps i [] lt
-        ∙ ap (λ n. fields_for all (take i ps) ++ (n + 1) ∷ []) (ap (place all) (sym is) ∙ ap (λ l. place l x) (sym onward) ∙ learned_place (seen now x) (drop (i + 1) ps) x (has_seen now x))
+        ap (λ n. fields_for all (take n ps)) next
+        ∙ map_more (λ a. place all a + 1) ps i [] lt
+        ∙ ap (λ n. fields_for all (take i ps) ++ (n + 1) ∷ []) (ap (place all) (sym is) ∙ ap (λ l. place l x) (sym onward) ∙ learned_place (seen now x) (drop m ps) x (has_seen now x))
 
-  pub fields_length : (all : Atoms) → length (fields_for all (take i ps)) ≡ i
-  fields_length all = length-map (take i ps) (λ a. place all a + 1) ∙ length-take-le i ps (omega arith)
+pub fields_length : (all ps : Atoms) (i : ℕ) → i ≤ length ps → length (fields_for all (take i ps)) ≡ i
+fields_length all ps i le = length-map (take i ps) (λ a. place all a + 1) ∙ length-take-le i ps le
+
+pub total_push : (xs : Atoms) (a : Atom) → total (xs ++ a ∷ []) ≡ total xs + length a
+total_push xs a = total_append xs (a ∷ []) ∙ omega arith
+
+-- an answer that is none only against P and R
+pub some_unless : {A P R : Type 0} (Q : A → Type 0) (r : Option A) → MatchOption r (P → R → ⊥) Q → P → R → is_some r ≡ true
+some_unless Q None h p q = absurd (h p q)
+some_unless Q (Some x) h p q = refl
+
+-- what one more atom adds
+pub ruleset added = (length_push, total_append, place_push)

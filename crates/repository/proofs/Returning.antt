@@ -145,7 +145,7 @@ module _ (held : Atoms) (name : List ℕ) (s : Scope) (after : Atoms) (a : Accep
         spelled = spelled;
         built = λ some.
             let again : cut (spelling later s) ≡ ps = ap cut spelled ∙ cut_again name ps c some in
-            accepted later (spelling later s) plain (omega (arith, ap length again, was_eight held name a.unrefused)) later (sym (ap (learned later) again ∙ learned_none later ps still)) l.few l.short s (fields ∙ sym ((λ i. fields_for (l.begins i) (again i)) ∙ fields_back after more ps all_held)) later refl;
+            accepted later (spelling later s) plain (omega (arith, ap length again, was_eight held name a.unrefused)) later (sym (ap (learned later) again ∙ learned_none later ps still)) l.few l.short s (fields ∙ sym ((λ i. fields_for (l.begins i) (again i)) ∙ fields_back after more ps all_held));
       }
 
 -- the same of whatever `build` answered

@@ -1,12 +1,8 @@
 -- Atoms joined by dots, one after the other.
-use Rattle.std.proofs.Common.{◌≡◌, ℕ, zero, suc, ◌+◌, ◌<◌, ◌≤◌, min, List, [], ◌∷◌, ◌++◌, length, get_or, take, drop, sym, refl, ap, ◌∙◌, arith}
+use Rattle.std.proofs.Common.{◌≡◌, ℕ, zero, suc, ◌+◌, ◌<◌, ◌≤◌, List, [], ◌∷◌, ◌++◌, length, get_or, take, drop, sym, refl, ap, ◌∙◌, arith}
 use Rattle.std.specs.List.{flat_map}
 use Rattle.std.proofs.lemmas.List.{take_more, take-append-drop, append-nil, append_assoc, flat_map_more, length-append, length-take-le, drop-drop, take_at, drop_at}
 use Rattle.repository.specs.Names.{Atom, Atoms, dotted, led}
-
-pub led_length : (i : ℕ) (a : Atom) → length (led i a) ≡ min i 1 + length a
-led_length zero a = omega arith
-led_length (suc i) a = omega arith
 
 dotted_push : (xs : Atoms) (a : Atom) → dotted (xs ++ a ∷ []) ≡ dotted xs ++ led (length xs) a
 dotted_push [] a = append-nil a
@@ -59,3 +55,5 @@ put_on p out now then a n r long e f g =
 pub led_some : (i : ℕ) (a : Atom) → (i ≡ 0 → ⊥) → led i a ≡ 46 ∷ a
 led_some zero a ne = absurd (ne refl)
 led_some (suc i) a ne = refl
+
+pub ruleset joined = (led_some, length_more, dotted_more, fits_more)

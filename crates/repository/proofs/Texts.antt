@@ -44,3 +44,6 @@ module _ (held : Atoms) (s : Scope) (i f : ℕ) (lt : i < length (atoms_in s)) (
 
   pub known_all : given held (atoms_in s) ≡ true → f ≤ length held
   known_all g = omega (arith, given_at held (atoms_in s) i lt g, field)
+
+-- what the code reads at each field
+pub ruleset reads = (texts_length, field_some, text_at, unknown, known_on, known_all)

@@ -40,3 +40,9 @@ pub record Front (c : Counts) (t u : AtomTables) : Type 0 where
 pub record Grows (c d : Counts) : Type 0 where
   pub atoms : c.atoms ≤ d.atoms
   pub bytes : c.bytes ≤ d.bytes
+
+-- d and u fit each other, and below the counts c they hold what c and t held
+pub record Extends (c : Counts) (t : AtomTables) (d : Counts) (u : AtomTables) : Type 0 where
+  pub sound : Sound d u
+  pub front : Front c t u
+  pub grows : Grows c d

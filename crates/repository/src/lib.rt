@@ -3,6 +3,7 @@
 
 mod building;
 pub mod faults;
+mod held;
 mod names;
 pub mod scope_repository;
 mod tables;

@@ -7,6 +7,7 @@ use crate::tables::{AtomTables, Counts};
 pub mod calls;
 
 // The atoms given out so far: the counts, and the tables that they fit.
+// stays: a guard will borrow counts and tables apart, which a model would shut away
 #[derive(Drop)]
 pub struct ScopeRepository {
     pub(crate) counts: Counts,

@@ -1,11 +1,12 @@
 -- The one answer to a line: a function of the line that every reading of it agrees with.
-use Rattle.std.proofs.Common.{◌≡◌, ℕ, ◌+◌, ◌-◌, ◌^◌, ◌<◌, Bool, true, false, cond, ◌&&◌, ◌||◌, eqb, ltb, leb, ◌⊎◌, List, [], ◌∷◌, length, drop, Ok, Err, Result, sym, refl, ap, ◌∙◌, subst, inl, inr, ⊎_elim, arith}
+use Rattle.std.proofs.Common.{◌≡◌, ℕ, ◌+◌, ◌-◌, ◌^◌, Bool, true, false, cond, ◌&&◌, ◌||◌, eqb, ltb, leb, ◌⊎◌, List, [], ◌∷◌, length, drop, Ok, Err, Result, sym, refl, ap, ◌∙◌, subst, inl, inr, ⊎_elim, arith}
 use Rattle.std.specs.Str.Parse.{digits_value}
 use Rattle.std.specs.Int.{IsInRange}
 use Rattle.std.specs.List.{AllByRecursion}
 use Rattle.std.specs.Str.{bytes_eq}
 use Rattle.std.proofs.lemmas.Slice.Eq.{bytes_eq-Decides}
-use Rattle.std.proofs.lemmas.Bool.{cases_Bool, and_from, and_parts, or_from, cond-true, cond-false, lt-ltb, ltb-true, le-leb, leb-true, eq-eqb, ne_eqb}
+use Rattle.std.proofs.lemmas.Bool.{cases_Bool, and_from, and_parts, or_from, cond-true, cond-false, ltb-true, eq-eqb, ne_eqb}
+use Rattle.std.proofs.lemmas.Bool.Decides.{nat_tests}
 use Rattle.stacks.specs.declared.ops.ClearAmount.TheVariants.{TopN, All as WholeStack}
 use Rattle.scripts.specs.declared.directives.Directive.{Directive}
 use Rattle.scripts.specs.declared.directives.Directive.TheVariants.{Nothing, Theme, Stack, Line, Change}
@@ -32,11 +33,15 @@ digits (b ∷ bs) = digit b && digits bs
 abbrev is_number : List ℕ → Bool
 is_number w = ltb 0 (length w) && (digits w && ltb (digits_value 10 w) (2 ^ 64))
 
+-- a test whose fact is refuted fails
+fails : {P : Type 0} (test : Bool) → (test ≡ true → P) → (P → ⊥) → test ≡ false
+fails test holds none = ⊎_elim (λ e. absurd (none (holds e))) (λ e. e) (cases_Bool test)
+
 digit_true : (b : ℕ) → IsInRange 48 57 b → digit b ≡ true
-digit_true b h = and_from (leb 48 b) (leb b 57) (le-leb 48 b h.0) (le-leb b 57 h.1)
+digit_true b h = grind (arith, nat_tests)
 
 digit_in : (b : ℕ) → digit b ≡ true → IsInRange 48 57 b
-digit_in b e = let p = and_parts (leb 48 b) (leb b 57) e in (leb-true 48 b p.0, leb-true b 57 p.1)
+digit_in b e = grind (arith, nat_tests)
 
 digits_true : (w : List ℕ) → AllByRecursion (IsInRange 48 57) w → digits w ≡ true
 digits_true [] h = refl
@@ -47,19 +52,19 @@ digits_in [] e = tt
 digits_in (b ∷ bs) e = let p = and_parts (digit b) (digits bs) e in (digit_in b p.0, digits_in bs p.1)
 
 number_true : (w : List ℕ) (n : ℕ) → Number w n → is_number w ≡ true
-number_true w n h =
-    and_from _ _ (lt-ltb 0 (length w) h.some) (and_from _ _ (digits_true w h.digits) (lt-ltb (digits_value 10 w) (2 ^ 64) (subst (λ m. m < 2 ^ 64) h.is h.small)))
+number_true w n h = grind (arith, nat_tests, digits_true w h.digits, h.some, h.is, h.small)
 
-number_false : (w : List ℕ) → NoNumber w → is_number w ≡ false
-number_false w h =
-    ⊎_elim (λ e.
+number_in : (w : List ℕ) → is_number w ≡ true → Number w (digits_value 10 w)
+number_in w e =
     let p = and_parts (ltb 0 (length w)) (digits w && ltb (digits_value 10 w) (2 ^ 64)) e in
     let q = and_parts (digits w) (ltb (digits_value 10 w) (2 ^ 64)) p.1 in
-    absurd (h (digits_value 10 w) (record { some = ltb-true 0 (length w) p.0; digits = digits_in w q.0; is = refl; small = ltb-true (digits_value 10 w) (2 ^ 64) q.1 })))
-    (λ e. e) (cases_Bool (is_number w))
+    record { some = ltb-true 0 (length w) p.0; digits = digits_in w q.0; is = refl; small = ltb-true (digits_value 10 w) (2 ^ 64) q.1 }
+
+number_false : (w : List ℕ) → NoNumber w → is_number w ≡ false
+number_false w h = fails (is_number w) (number_in w) (h (digits_value 10 w))
 
 same_false : (w v : List ℕ) → (w ≡ v → ⊥) → bytes_eq w v ≡ false
-same_false w v h = ⊎_elim (λ e. absurd (h ((bytes_eq-Decides w v).0 e))) (λ e. e) (cases_Bool (bytes_eq w v))
+same_false w v h = fails (bytes_eq w v) (bytes_eq-Decides w v).0 h
 
 -- where a word stands
 abbrev place : ℕ → List ℕ → List ℕ → ℕ
@@ -193,7 +198,7 @@ module _ (size : ℕ) where
       digit_is w rest (begins w n h) ∙ cond-true _ _ _ (number_true w n h) ∙ ap (λ m. acting m size rest) (sym h.is)
 
   no_digit : (b : ℕ) → (IsInRange 48 57 b → ⊥) → digit b ≡ false
-  no_digit b h = ⊎_elim (λ e. absurd (h (digit_in b e))) (λ e. e) (cases_Bool (digit b))
+  no_digit b h = fails (digit b) (digit_in b) h
 
   unknown_is : (w rest : List ℕ) → NoOpening w → by_first w rest ≡ goes_wrong (place size w rest) ADirective
   unknown_is [] rest h = absurd (h.some refl)

@@ -107,7 +107,3 @@ pub rest_short : (text w rest : List ℕ) → Word text w rest → 0 < length w 
 rest_short text w rest h some = omega (arith, length_is text w rest h)
 
 -- an empty word has nothing behind it
-pub found_none : (size : ℕ) (text w rest : List ℕ) (at : ℕ) → Found size text w rest at → true ≡ eqb (length w) 0 → Found size text [] [] at
-found_none size text w rest at h e =
-    let no_word : w ≡ [] = nil_from_length w (eqb-true (length w) 0 (sym e)) in
-    subst (λ l. Found size text [] l at) (h.word.none no_word) (subst (λ l. Found size text l rest at) no_word h)

@@ -1,10 +1,10 @@
 -- The words of the language, and what is told of a word by its bytes alone.
-use Rattle.std.specs.Prelude.{◌≡◌, ℕ, ◌<◌, ◌⊎◌, List, [], length, codes, slice_index}
+use Rattle.std.specs.Prelude.{◌≡◌, ℕ, ◌<◌, ◌⊎◌, List, [], length, codes, slice_index, Some, None, Option}
 use Rattle.std.specs.Int.{IsInRange}
 use Rattle.scripts.specs.declared.keywords.Opening.{Opening}
-use Rattle.scripts.specs.declared.keywords.Opening.TheVariants.{Nothing, Theme, Stack, Line, Change, Unknown}
+use Rattle.scripts.specs.declared.keywords.Opening.TheVariants.{Nothing, Theme, Stack, Line, Change}
 use Rattle.scripts.specs.declared.keywords.Operation.{Operation}
-use Rattle.scripts.specs.declared.keywords.Operation.TheVariants.{Push, Pop, Clear, Restore, Noop, Unknown as NotKnown}
+use Rattle.scripts.specs.declared.keywords.Operation.TheVariants.{Push, Pop, Clear, Restore, Noop}
 
 -- the words that begin a directive
 abbrev pub foreground_word : List ℕ
@@ -73,20 +73,20 @@ pub record NoOperation (w : List ℕ) : Type 0 where
   pub restore : w ≡ restore_word → ⊥
   pub noop : w ≡ noop_word → ⊥
 
--- what a first word begins
-abbrev pub Opens : List ℕ → Opening → Type 0
-Opens w Nothing = (w ≡ []) ⊎ Comment w
-Opens w Theme = ThemeWord w
-Opens w Stack = w ≡ stack_word
-Opens w Line = w ≡ line_word
-Opens w Change = BeginsDigit w
-Opens w Unknown = NoOpening w
+-- what a first word begins, if anything
+abbrev pub Opens : List ℕ → Option Opening → Type 0
+Opens w (Some Nothing) = (w ≡ []) ⊎ Comment w
+Opens w (Some Theme) = ThemeWord w
+Opens w (Some Stack) = w ≡ stack_word
+Opens w (Some Line) = w ≡ line_word
+Opens w (Some Change) = BeginsDigit w
+Opens w None = NoOpening w
 
--- what a change's second word asks for
-abbrev pub Asks : List ℕ → Operation → Type 0
-Asks w Push = w ≡ push_word
-Asks w Pop = w ≡ pop_word
-Asks w Clear = w ≡ clear_word
-Asks w Restore = w ≡ restore_word
-Asks w Noop = w ≡ noop_word
-Asks w NotKnown = NoOperation w
+-- what a change's second word asks for, if anything
+abbrev pub Asks : List ℕ → Option Operation → Type 0
+Asks w (Some Push) = w ≡ push_word
+Asks w (Some Pop) = w ≡ pop_word
+Asks w (Some Clear) = w ≡ clear_word
+Asks w (Some Restore) = w ≡ restore_word
+Asks w (Some Noop) = w ≡ noop_word
+Asks w None = NoOperation w

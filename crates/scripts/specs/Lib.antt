@@ -10,3 +10,5 @@ pub mod Reads
 pub mod Once
 -- Operations: what an action asks of a stack.
 pub mod Operations
+-- Yields: what the iterator over a text's words gives.
+pub mod Yields

@@ -8,6 +8,7 @@ use Rattle.scripts.specs.declared.directives.Action.TheVariants.{Push, Pop, Clea
 use Rattle.scripts.specs.declared.directives.Expected.{Expected}
 use Rattle.scripts.specs.declared.directives.Expected.TheVariants.{Directive as ADirective, Number as ANumber, Operation as AnOperation, Name as AName, Count as ACount, Amount as AnAmount, End as TheEnd}
 use Rattle.scripts.specs.declared.directives.Fault.{Fault}
+use Rattle.scripts.specs.declared.reading.Part.{Part}
 use Rattle.scripts.specs.Words.{Word, Found}
 use Rattle.scripts.specs.Numbers.{Number, NoNumber}
 use Rattle.scripts.specs.Keywords.{stack_word, line_word, push_word, pop_word, clear_word, restore_word, noop_word, all_word, Comment, BeginsDigit, ThemeWord, NoOpening, NoOperation}
@@ -163,3 +164,8 @@ Reads line (Err f) = Fails line f.at f.expected
 abbrev pub ReadsAction : ℕ → List ℕ → Result Action Fault → Type 0
 ReadsAction size text (Ok a) = Whole text a
 ReadsAction size text (Err f) = Misses size text f.at f.expected
+
+-- what the words of an action at the beginning of such a text are read as
+abbrev pub ReadsPart : ℕ → List ℕ → Result Part Fault → Type 0
+ReadsPart size text (Ok p) = Acts text p.action p.rest.text.now × (p.rest.size ≡ size)
+ReadsPart size text (Err f) = Misses size text f.at f.expected

@@ -4,6 +4,7 @@ ghost use Rattle.scripts.specs.Operations.{Names, operation_of};
 
 use scopes::Scope;
 use stacks::{ClearAmount, ScopeStackOp};
+use thiserror::Error;
 
 #[derive(Clone, Copy)]
 pub enum Directive<'a> {
@@ -18,6 +19,8 @@ pub enum Directive<'a> {
     Change { position: usize, action: Action<'a> },
 }
 
+// stays: ScopeStackOp with a name in the scope's place; one type for both would carry a parameter through every clause of
+// the stack
 #[derive(Clone, Copy)]
 pub enum Action<'a> {
     Push(&'a [u8]),
@@ -28,19 +31,26 @@ pub enum Action<'a> {
 }
 
 // What should have stood where a line goes wrong.
-#[derive(Clone, Copy)]
+#[derive(Clone, Copy, Debug, PartialEq, Eq, Error)]
 pub enum Expected {
+    #[error("foreground, background, rule, stack, line, a change's position or # is expected")]
     Directive,
+    #[error("a position is expected, a decimal number below 2^64")]
     Number,
+    #[error("push, pop, clear, restore or noop is expected")]
     Operation,
+    #[error("the name of the scope to push is expected")]
     Name,
+    #[error("the number of scopes to pop is expected, a decimal number below 2^64")]
     Count,
+    #[error("the number of scopes to clear is expected, a decimal number below 2^64, or all")]
     Amount,
+    #[error("the end of the line is expected")]
     End,
 }
 
 // `at`: how many bytes of the line stand before what was found; all of them where nothing was.
-#[derive(Clone, Copy)]
+#[derive(Clone, Copy, Debug, PartialEq, Eq)]
 pub struct Fault {
     pub at: usize,
     pub expected: Expected,

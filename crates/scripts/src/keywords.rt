@@ -1,5 +1,5 @@
 // The words of the language.
-ghost use Rattle.std.specs.Prelude.{◌≡◌, Decides};
+// stays: what each word is stands here once, and `reading` says what is read behind it
 ghost use Rattle.scripts.specs.Keywords.{Opens, Asks};
 
 // What the first word of a line begins.
@@ -10,7 +10,6 @@ pub(crate) enum Opening {
     Stack,
     Line,
     Change,
-    Unknown,
 }
 
 // What the second word of a change asks for.
@@ -21,50 +20,32 @@ pub(crate) enum Operation {
     Clear,
     Restore,
     Noop,
-    Unknown,
 }
 
-// Whether a word is this one.
-pub(crate) fn is(w: &[u8], name: &[u8]) -> bool
-    ensures { Decides result (w.now ≡ name.now) }
-{
-    w == name
-}
-
-// What a first word begins.
-pub(crate) fn opening_of(w: &[u8]) -> Opening
+// What a first word begins, if anything.
+pub(crate) fn opening_of(w: &[u8]) -> Option<Opening>
     ensures { Opens w.now result }
 {
-    if w.is_empty() || w[0] == b'#' {
-        Opening::Nothing
-    } else if is(w, b"foreground") || is(w, b"background") || is(w, b"rule") {
-        Opening::Theme
-    } else if is(w, b"stack") {
-        Opening::Stack
-    } else if is(w, b"line") {
-        Opening::Line
-    } else if w[0] >= b'0' && w[0] <= b'9' {
-        Opening::Change
-    } else {
-        Opening::Unknown
+    match w {
+        [] | [b'#', ..] => Some(Opening::Nothing),
+        b"foreground" | b"background" | b"rule" => Some(Opening::Theme),
+        b"stack" => Some(Opening::Stack),
+        b"line" => Some(Opening::Line),
+        [b'0'..=b'9', ..] => Some(Opening::Change),
+        _ => None,
     }
 }
 
-// What a change's second word asks for.
-pub(crate) fn operation_of(w: &[u8]) -> Operation
+// What a change's second word asks for, if anything.
+pub(crate) fn operation_of(w: &[u8]) -> Option<Operation>
     ensures { Asks w.now result }
 {
-    if is(w, b"push") {
-        Operation::Push
-    } else if is(w, b"pop") {
-        Operation::Pop
-    } else if is(w, b"clear") {
-        Operation::Clear
-    } else if is(w, b"restore") {
-        Operation::Restore
-    } else if is(w, b"noop") {
-        Operation::Noop
-    } else {
-        Operation::Unknown
+    match w {
+        b"push" => Some(Operation::Push),
+        b"pop" => Some(Operation::Pop),
+        b"clear" => Some(Operation::Clear),
+        b"restore" => Some(Operation::Restore),
+        b"noop" => Some(Operation::Noop),
+        _ => None,
     }
 }

@@ -15,8 +15,9 @@ pub mod directives;
 mod keywords;
 mod numbers;
 mod reading;
+mod rest;
 mod words;
 
 pub use directives::{Action, Directive, Expected, Fault};
 pub use reading::read;
-pub use words::word;
+pub use words::{Words, word};

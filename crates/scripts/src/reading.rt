@@ -1,125 +1,103 @@
 // A line's words, read in turn.
-ghost use Rattle.std.specs.Prelude.{◌≤◌, length, IfOk, MatchResult};
+ghost use Rattle.std.specs.Prelude.{◌≡◌, ℕ, List, MatchResult};
+ghost use Rattle.scripts.specs.Keywords.{clear_word, pop_word, push_word};
+ghost use Rattle.scripts.specs.Numbers.{Number, NoNumber};
 ghost use Rattle.scripts.specs.Once.{ReadOnce};
-ghost use Rattle.scripts.specs.Words.{Ended, Found};
-ghost use Rattle.scripts.specs.Reads.{Acts, BehindBlank, Misses, Reads, ReadsAction};
+ghost use Rattle.scripts.specs.Words.{Ended, Word};
+ghost use Rattle.scripts.specs.Reads.{BehindBlank, Reads, ReadsAction, ReadsPart};
 
 use crate::directives::{Action, Directive, Expected, Fault};
-use crate::keywords::{Opening, Operation, is, opening_of, operation_of};
+use crate::keywords::{Opening, Operation, opening_of, operation_of};
 use crate::numbers::number;
-use crate::words::word;
+use crate::rest::{Rest, Token};
 use stacks::ClearAmount;
-
-// A word, where it stands in its line, and what stands behind it.
-#[derive(Clone, Copy)]
-struct Token<'a> {
-    word: &'a [u8],
-    at: usize,
-    rest: &'a [u8],
-}
 
 // An action, and what stands behind its words.
 #[derive(Clone, Copy)]
 struct Part<'a> {
     action: Action<'a>,
-    rest: &'a [u8],
+    rest: Rest<'a>,
 }
 
-// The first word of a text that ends a line of `size` bytes.
-fn next(text: &[u8], size: usize) -> Token<'_>
-    requires { length text.now ≤ size }
-    ensures { Found size text.now result.word.now result.rest.now result.at }
+// The number that a word writes.
+fn counted(found: Token<'_>, expected: Expected) -> Result<usize, Fault>
+    ensures { MatchResult result (λ n. Number found.entry.word.now n) (λ f. NoNumber found.entry.word.now × (f ≡ record { at = found.entry.at; expected = expected })) }
 {
-    let (w, rest) = word(text);
-    Token {
-        word: w,
-        at: size - (w.len() + rest.len()),
-        rest,
+    number(found.word).ok_or(found.lacks(expected))
+}
+
+// A `push`, from this word on.
+fn push(verb: Token<'_>) -> Result<Part<'_>, Fault>
+    ensures { (text : List ℕ) → Word text push_word verb.entry.rest.text.now → ReadsPart verb.entry.rest.size text result }
+{
+    let name = verb.rest.next();
+    if name.word.is_empty() {
+        return Err(name.lacks(Expected::Name));
     }
+    Ok(Part {
+        action: Action::Push(name.word),
+        rest: name.rest,
+    })
 }
 
-// The action that such a text begins with.
-fn asked(text: &[u8], size: usize) -> Result<Part<'_>, Fault>
-    requires { length text.now ≤ size }
-    ensures acts { MatchResult result (λ p. Acts text.now p.action p.rest.now) (λ f. Misses size text.now f.at f.expected) }
-    ensures within { IfOk result (λ p. length p.rest.now ≤ size) }
+// A `pop`.
+fn pop(verb: Token<'_>) -> Result<Part<'_>, Fault>
+    ensures { (text : List ℕ) → Word text pop_word verb.entry.rest.text.now → ReadsPart verb.entry.rest.size text result }
 {
-    let verb = next(text, size);
+    let count = verb.rest.next();
+    let n = counted(count, Expected::Count)?;
+    Ok(Part {
+        action: Action::Pop(n),
+        rest: count.rest,
+    })
+}
+
+// A `clear`.
+fn clear(verb: Token<'_>) -> Result<Part<'_>, Fault>
+    ensures { (text : List ℕ) → Word text clear_word verb.entry.rest.text.now → ReadsPart verb.entry.rest.size text result }
+{
+    let amount = verb.rest.next();
+    let clear = match amount.word {
+        b"all" => ClearAmount::All,
+        _ => ClearAmount::TopN(counted(amount, Expected::Amount)?),
+    };
+    Ok(Part {
+        action: Action::Clear(clear),
+        rest: amount.rest,
+    })
+}
+
+// The action that a text begins with.
+fn asked(text: Rest<'_>) -> Result<Part<'_>, Fault>
+    ensures { ReadsPart text.entry.size text.entry.text.now result }
+{
+    let verb = text.next();
     match operation_of(verb.word) {
-        Operation::Push => {
-            let name = next(verb.rest, size);
-            if name.word.is_empty() {
-                return Err(Fault {
-                    at: name.at,
-                    expected: Expected::Name,
-                });
-            }
-            Ok(Part {
-                action: Action::Push(name.word),
-                rest: name.rest,
-            })
-        }
-        Operation::Pop => {
-            let count = next(verb.rest, size);
-            match number(count.word) {
-                Some(n) => Ok(Part {
-                    action: Action::Pop(n),
-                    rest: count.rest,
-                }),
-                None => Err(Fault {
-                    at: count.at,
-                    expected: Expected::Count,
-                }),
-            }
-        }
-        Operation::Clear => {
-            let amount = next(verb.rest, size);
-            if is(amount.word, b"all") {
-                return Ok(Part {
-                    action: Action::Clear(ClearAmount::All),
-                    rest: amount.rest,
-                });
-            }
-            match number(amount.word) {
-                Some(n) => Ok(Part {
-                    action: Action::Clear(ClearAmount::TopN(n)),
-                    rest: amount.rest,
-                }),
-                None => Err(Fault {
-                    at: amount.at,
-                    expected: Expected::Amount,
-                }),
-            }
-        }
-        Operation::Restore => Ok(Part {
+        Some(Operation::Push) => push(verb),
+        Some(Operation::Pop) => pop(verb),
+        Some(Operation::Clear) => clear(verb),
+        Some(Operation::Restore) => Ok(Part {
             action: Action::Restore,
             rest: verb.rest,
         }),
-        Operation::Noop => Ok(Part {
+        Some(Operation::Noop) => Ok(Part {
             action: Action::Noop,
             rest: verb.rest,
         }),
-        Operation::Unknown => Err(Fault {
-            at: verb.at,
-            expected: Expected::Operation,
-        }),
+        None => Err(verb.lacks(Expected::Operation)),
     }
 }
 
-// The action that such a text is, with nothing behind it.
-fn action(text: &[u8], size: usize) -> Result<Action<'_>, Fault>
-    requires { length text.now ≤ size }
-    ensures { ReadsAction size text.now result }
+// The action that a text is, with nothing behind it.
+fn action(text: Rest<'_>) -> Result<Action<'_>, Fault>
+    ensures { ReadsAction text.entry.size text.entry.text.now result }
 {
-    let part = asked(text, size)?;
-    let last = next(part.rest, size);
+    let part = asked(text)?;
+    let last = part.rest.next();
     if last.word.is_empty() {
         Ok(part.action)
     } else {
-        Err(Fault {
-            at: last.at,
-            expected: Expected::End,
-        })
+        Err(last.lacks(Expected::End))
     }
 }
 
@@ -135,26 +113,18 @@ fn behind(text: &[u8]) -> &[u8]
 fn said(line: &[u8]) -> Result<Directive<'_>, Fault>
     ensures { Reads line.now result }
 {
-    let first = next(line, line.len());
+    let first = Rest::new(line).next();
     match opening_of(first.word) {
-        Opening::Nothing => Ok(Directive::Nothing),
-        Opening::Theme => Ok(Directive::Theme),
-        Opening::Stack => Ok(Directive::Stack(first.rest)),
-        Opening::Line => Ok(Directive::Line(behind(first.rest))),
-        Opening::Change => {
-            let Some(position) = number(first.word) else {
-                return Err(Fault {
-                    at: first.at,
-                    expected: Expected::Number,
-                });
-            };
-            let action = action(first.rest, line.len())?;
+        Some(Opening::Nothing) => Ok(Directive::Nothing),
+        Some(Opening::Theme) => Ok(Directive::Theme),
+        Some(Opening::Stack) => Ok(Directive::Stack(first.rest.text)),
+        Some(Opening::Line) => Ok(Directive::Line(behind(first.rest.text))),
+        Some(Opening::Change) => {
+            let position = counted(first, Expected::Number)?;
+            let action = action(first.rest)?;
             Ok(Directive::Change { position, action })
         }
-        Opening::Unknown => Err(Fault {
-            at: first.at,
-            expected: Expected::Directive,
-        }),
+        None => Err(first.lacks(Expected::Directive)),
     }
 }
 

@@ -1,9 +1,7 @@
 -- Set-asides that stand behind one another, cut by their sizes.
-use Rattle.std.proofs.Common.{◌≡◌, ℕ, suc, ◌+◌, ◌<◌, ◌≤◌, List, [], ◌∷◌, ◌++◌, map, length, get_or, take, drop, set, sum, sym, refl, ap, ◌∙◌, arith, length-drop}
-use Rattle.std.proofs.Math.Seq.{paste}
-use Rattle.std.proofs.lemmas.List.{length-take-le, drop-drop, take-take, drop-take, take_at, drop_at, take_more_set, take_more}
+use Rattle.std.proofs.Common.{◌≡◌, ℕ, suc, ◌+◌, ◌-◌, ◌≤◌, List, [], ◌∷◌, ◌++◌, map, length, take, drop, sum, sym, refl, ap, ◌∙◌, arith, length-drop}
+use Rattle.std.proofs.lemmas.List.{length-take-le, take_all, take-append-le, drop-append-le, take-append-drop}
 use Rattle.std.proofs.lemmas.List.Sums.{sum_by-cons, sum_by_push}
-use Rattle.std.proofs.lemmas.List.Edits.{take-paste}
 use Rattle.scopes.specs.declared.scope.Scope.{Scope}
 use Rattle.stacks.specs.Stacks.{cut, aside_count}
 
@@ -20,46 +18,24 @@ aside_cut (n ∷ ns) xs h =
     let r : aside_count (cut ns (drop n xs)) ≡ sum ns = aside_cut ns (drop n xs) (omega arith) in
     omega arith
 
-pub cut_push : (ns : List ℕ) (n : ℕ) (xs : List Scope) → cut (ns ++ n ∷ []) xs ≡ cut ns xs ++ (take n (drop (sum ns) xs) ∷ [])
-cut_push [] n xs = refl
-cut_push (m ∷ ns) n xs =
-    let e : sum (m ∷ ns) ≡ m + sum ns = sum_by-cons (λ x. x) m ns in
-    ap (λ ys. take m xs ∷ ys) (cut_push ns n (drop m xs) ∙ ap (λ ys. cut ns (drop m xs) ++ (take n ys ∷ [])) (drop-drop (sum ns) m xs ∙ ap (λ k. drop k xs) (sym e)))
-
-pub cut_same : (ns : List ℕ) (xs ys : List Scope) → take (sum ns) xs ≡ take (sum ns) ys → cut ns xs ≡ cut ns ys
-cut_same [] xs ys h = refl
-cut_same (n ∷ ns) xs ys h =
+-- one set-aside more behind the others
+pub cut_push : (ns : List ℕ) (xs zs : List Scope) → sum ns ≡ length xs → cut (ns ++ length zs ∷ []) (xs ++ zs) ≡ cut ns xs ++ zs ∷ []
+cut_push [] [] zs h = ap (λ ys. ys ∷ []) (take_all (length zs) zs (omega arith))
+cut_push [] (x ∷ xs) zs h = absurd (omega (arith, h))
+cut_push (n ∷ ns) xs zs h =
     let e : sum (n ∷ ns) ≡ n + sum ns = sum_by-cons (λ x. x) n ns in
-    let h' : take (n + sum ns) xs ≡ take (n + sum ns) ys = ap (λ k. take k xs) (sym e) ∙ h ∙ ap (λ k. take k ys) e in
-    let a : take n xs ≡ take n ys = sym (take-take n (n + sum ns) xs (omega arith)) ∙ ap (take n) h' ∙ take-take n (n + sum ns) ys (omega arith) in
-    let b : take (sum ns) (drop n xs) ≡ take (sum ns) (drop n ys) = sym (drop-take n (sum ns) xs) ∙ ap (drop n) h' ∙ drop-take n (sum ns) ys in
-    let r = cut_same ns (drop n xs) (drop n ys) b in
-    cc
+    let few : n ≤ length xs = omega arith in
+    let rest : sum ns ≡ length (drop n xs) = omega (arith, length-drop n xs) in
+    rw (take-append-le n xs zs few, drop-append-le n xs zs few) (ap (λ ys. take n xs ∷ ys) (cut_push ns (drop n xs) zs rest))
 
--- one more set-aside, its scopes copied behind the others
-pub cleared : (sizes : List ℕ) (count k kept : ℕ) (aside zs : List Scope) → sum (take count sizes) ≡ kept → count < length sizes → kept + k ≤ length aside → k ≤ length zs →
-    cut (take (count + 1) (set sizes count k)) (paste aside kept zs k) ≡ cut (take count sizes) aside ++ (take k zs ∷ [])
-cleared sizes count k kept aside zs adds few fits long =
-    let after = paste aside kept zs k in
-    let t : take (kept + k) after ≡ take kept aside ++ take k zs = take-paste aside kept zs k (omega arith) long in
-    let l : length (take kept aside) ≡ kept = length-take-le kept aside (omega arith) in
-    let low : take kept after ≡ take kept aside = sym (take-take kept (kept + k) after (omega arith)) ∙ ap (take kept) t ∙ take_at (take kept aside) (take k zs) kept l in
-    let high : take k (drop kept after) ≡ take k zs = sym (drop-take kept k after) ∙ ap (drop kept) t ∙ drop_at (take kept aside) (take k zs) kept l in
-    let same : cut (take count sizes) after ≡ cut (take count sizes) aside = cut_same (take count sizes) after aside (ap (λ n. take n after) adds ∙ low ∙ ap (λ n. take n aside) (sym adds)) in
-    ap (λ ns. cut ns after) (take_more_set sizes count k few) ∙ cut_push (take count sizes) k after
-    ∙ ap (λ ys. ys ++ (take k (drop (sum (take count sizes)) after) ∷ [])) same
-    ∙ ap (λ n. cut (take count sizes) aside ++ (take k (drop n after) ∷ [])) adds
-    ∙ ap (λ ys. cut (take count sizes) aside ++ (ys ∷ [])) high
-
--- the newest set-aside, taken off
-pub restored : (sizes : List ℕ) (count left : ℕ) (aside : List Scope) → count < length sizes → sum (take count sizes) ≡ left →
-    cut (take (count + 1) sizes) aside ≡ cut (take count sizes) aside ++ (take (get_or sizes count 0) (drop left aside) ∷ [])
-restored sizes count left aside few adds =
-    ap (λ ns. cut ns aside) (take_more sizes count 0 few) ∙ cut_push (take count sizes) (get_or sizes count 0) aside
-    ∙ ap (λ n. cut (take count sizes) aside ++ (take (get_or sizes count 0) (drop n aside) ∷ [])) adds
-
-pub sum_set : (sizes : List ℕ) (count k : ℕ) → count < length sizes → sum (take (count + 1) (set sizes count k)) ≡ sum (take count sizes) + k
-sum_set sizes count k few = ap sum (take_more_set sizes count k few) ∙ sum_by_push (λ x. x) (take count sizes) k
+-- the newest set-aside taken off
+pub cut_pop : (sizes ns : List ℕ) (n : ℕ) (xs : List Scope) → sizes ≡ ns ++ n ∷ [] → sum sizes ≡ length xs → cut sizes xs ≡ cut ns (take (length xs - n) xs) ++ drop (length xs - n) xs ∷ []
+cut_pop sizes ns n xs e h =
+    let left = length xs - n in
+    let all : sum sizes ≡ sum ns + n = ap sum e ∙ sum_by_push (λ x. x) ns n in
+    let size : length (drop left xs) ≡ n = omega (arith, length-drop left xs) in
+    let low : sum ns ≡ length (take left xs) = omega (arith, length-take-le left xs (omega arith)) in
+    ap (λ m. cut m xs) e ∙ (λ i. cut (ns ++ sym size i ∷ []) (sym (take-append-drop left xs) i)) ∙ cut_push ns (take left xs) (drop left xs) low
 
 pub sizes_cut : (ns : List ℕ) (xs : List Scope) → sum ns ≤ length xs → map length (cut ns xs) ≡ ns
 sizes_cut [] xs h = refl

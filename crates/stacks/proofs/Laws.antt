@@ -1,8 +1,10 @@
 -- Every operation has one outcome, and its tellings lead a list of scopes there too.
 use Rattle.std.proofs.Common.{◌≡◌, ℕ, zero, suc, ◌+◌, ◌-◌, ◌≤◌, Bool, true, false, ltb, List, [], ◌∷◌, ◌++◌, map, length, get_or, replicate, None, sym, refl, ap, ◌∙◌, subst, arith}
 use Rattle.std.specs.List.{AllByRecursion}
-use Rattle.std.proofs.lemmas.List.{length_push, length-drop, append-nil, append_assoc, take_all, take_more}
-use Rattle.std.proofs.lemmas.Bool.{cond_below, ltb-false, leb-false, eqb-false}
+use Rattle.std.proofs.lemmas.List.{length_push, length-drop, append-nil, take_all, take_more}
+use Rattle.std.proofs.lemmas.Bool.{cond_below, ltb-false, eqb-false}
+use Rattle.std.proofs.lemmas.Bool.Decides.{nat_tests}
+use Rattle.std.proofs.lemmas.Grind.{common_steps}
 use Rattle.scopes.specs.declared.scope.Scope.{Scope}
 use Rattle.stacks.specs.declared.ops.BasicScopeStackOp.TheVariants.{Push as PushTold, Pop as PopTold}
 use Rattle.stacks.specs.declared.ops.ScopeStackOp.{ScopeStackOp}
@@ -16,7 +18,7 @@ use Rattle.stacks.proofs.Tops.{below_none, below_more, below_last, below_is, las
 
 -- without a refusal its condition does not hold
 unrefused : (test : Bool) (n : ℕ) → refused_if test n ≡ None → test ≡ false
-unrefused true n e = let z : ◌≡◌ {A = ℕ} 0 1 = cc in absurd (omega arith)
+unrefused true n e = cc
 unrefused false n e = refl
 
 -- where something is set aside, the newest is the last
@@ -61,25 +63,24 @@ lawful Noop s = record { leads = λ _. refl; only = λ t d. d }
 
 moved_pops : (xs : List Scope) (n : ℕ) → moved_all (pops xs n) xs ≡ below n xs
 moved_pops xs zero = sym (below_none xs)
-moved_pops xs (suc n) = moved_pops (below 1 xs) n ∙ below_more 1 n xs ∙ ap (λ k. below k xs) (omega arith)
+moved_pops xs (suc n) = grind (arith, moved_pops (below 1 xs) n, below_more 1 n xs)
 
 moved_cuts : (left xs : List Scope) (n : ℕ) → moved_all (cuts left n) xs ≡ below n xs
 moved_cuts left xs zero = sym (below_none xs)
-moved_cuts left xs (suc n) = moved_cuts left (below 1 xs) n ∙ below_more 1 n xs ∙ ap (λ k. below k xs) (omega arith)
+moved_cuts left xs (suc n) = grind (arith, moved_cuts left (below 1 xs) n, below_more 1 n xs)
 
 moved_pushes : (xs ys : List Scope) → length xs + length ys ≤ 64 → moved_all (pushes xs ys) xs ≡ xs ++ ys
 moved_pushes xs [] few = sym (append-nil xs)
 moved_pushes xs (y ∷ ys) few =
-    ap (moved_all (pushes (xs ++ y ∷ []) ys)) (sym (cond_below (length xs) 64 (xs ++ y ∷ []) xs (omega arith)))
-    ∙ moved_pushes (xs ++ y ∷ []) ys (omega (arith, length_push xs y))
-    ∙ append_assoc xs (y ∷ []) ys
+    let short = cond_below (length xs) 64 (xs ++ y ∷ []) xs (omega arith) in
+    grind (arith, common_steps, moved_pushes (xs ++ y ∷ []) ys (omega (arith, length_push xs y)))
 
 aside_push : (xs : List (List Scope)) (x : List Scope) → aside_count (xs ++ x ∷ []) ≡ aside_count xs + length x
 aside_push [] x = omega arith
 aside_push (y ∷ xs) x = omega (arith, aside_push xs x)
 
 push_few : (x : Scope) (s : Stack) → refusal (Push x) s ≡ None → length s.scopes + length (x ∷ []) ≤ 64
-push_few x s e = omega (arith, leb-false 64 _ (unrefused _ 15 e))
+push_few x s e = grind (arith, nat_tests)
 
 restore_few : (s : Stack) → Within s → refusal Restore s ≡ None → length s.scopes + length (newest s) ≤ 64
 restore_few s within e =
@@ -125,8 +126,8 @@ same_telling t u a b = λ i. record { act = a i; stack = b i }
 -- step by step, the same acts from the same scopes are the same tellings
 same_steps : (xs : List Scope) (ts us : List Telling) → map (λ t. t.act) ts ≡ map (λ t. t.act) us → Steps xs ts → Steps xs us → ts ≡ us
 same_steps xs [] [] e p q = refl
-same_steps xs [] (u ∷ us) e p q = let z : ◌≡◌ {A = ℕ} 0 1 = cc in absurd (omega arith)
-same_steps xs (t ∷ ts) [] e p q = let z : ◌≡◌ {A = ℕ} 0 1 = cc in absurd (omega arith)
+same_steps xs [] (u ∷ us) e p q = cc
+same_steps xs (t ∷ ts) [] e p q = cc
 same_steps xs (t ∷ ts) (u ∷ us) e p q =
     let a : t.act ≡ u.act = cc in
     let b : map (λ t. t.act) ts ≡ map (λ t. t.act) us = cc in
@@ -136,8 +137,8 @@ same_steps xs (t ∷ ts) (u ∷ us) e p q =
 -- and so are those of the same acts on one stack
 same_cuts : (xs : List Scope) (ts us : List Telling) → map (λ t. t.act) ts ≡ map (λ t. t.act) us → AllByRecursion (λ t. t.stack ≡ xs) ts → AllByRecursion (λ t. t.stack ≡ xs) us → ts ≡ us
 same_cuts xs [] [] e p q = refl
-same_cuts xs [] (u ∷ us) e p q = let z : ◌≡◌ {A = ℕ} 0 1 = cc in absurd (omega arith)
-same_cuts xs (t ∷ ts) [] e p q = let z : ◌≡◌ {A = ℕ} 0 1 = cc in absurd (omega arith)
+same_cuts xs [] (u ∷ us) e p q = cc
+same_cuts xs (t ∷ ts) [] e p q = cc
 same_cuts xs (t ∷ ts) (u ∷ us) e p q =
     let a : t.act ≡ u.act = cc in
     let b : map (λ t. t.act) ts ≡ map (λ t. t.act) us = cc in

@@ -8,7 +8,5 @@ pub mod Memory
 pub mod Chains
 -- Laws: what holds of every operation.
 pub mod Laws
--- Rows: arrays of 64 that are told.
-pub mod Rows
 -- Places: what an outline is told moves its scopes.
 pub mod Places

@@ -1,7 +1,8 @@
 -- A list's top: its last elements.
 use Rattle.std.proofs.Common.{◌≡◌, ℕ, ◌+◌, ◌-◌, ◌<◌, ◌≤◌, List, [], ◌∷◌, ◌++◌, length, get_or, take, drop, sym, ap, ◌∙◌, arith}
-use Rattle.std.proofs.Math.Seq.{paste}
-use Rattle.std.proofs.lemmas.List.{length_push, length-take, take_all, take_at, take-take, take_more, get_or_push, get_or-drop, take-append-drop, length-append, length-drop, drop_at, drop-take}
+use Rattle.std.proofs.Math.Seq.{take-add}
+use Rattle.std.proofs.lemmas.Grind.{common_steps}
+use Rattle.std.proofs.lemmas.List.{length_push, take_all, take_at, take_more, get_or_push, get_or-drop, take-append-drop, length-append, length-drop, drop_at}
 use Rattle.stacks.specs.declared.ops.ClearAmount.{ClearAmount}
 use Rattle.stacks.specs.declared.ops.ClearAmount.TheVariants.{TopN, All}
 use Rattle.stacks.specs.Operations.{taken, below, last}
@@ -13,18 +14,12 @@ module _ {A : Type 0} where
   pub newest_push : (xs : List A) (x d : A) → get_or (xs ++ x ∷ []) (length (xs ++ x ∷ []) - 1) d ≡ x
   newest_push xs x d = get_or_push xs x d (length (xs ++ x ∷ []) - 1) (omega (arith, length_push xs x))
 
-  pub length_below : (n : ℕ) (xs : List A) → length (below n xs) ≡ length xs - n
-  length_below n xs = omega (arith, length-take (length xs - n) xs)
-
   pub below_none : (xs : List A) → below 0 xs ≡ xs
   below_none xs = take_all (length xs - 0) xs (omega arith)
 
   -- n off, and m more off
   pub below_more : (n m : ℕ) (xs : List A) → below m (below n xs) ≡ below (n + m) xs
-  below_more n m xs =
-      ap (λ k. take (k - m) (below n xs)) (length_below n xs)
-      ∙ take-take (length xs - n - m) (length xs - n) xs (omega arith)
-      ∙ ap (λ k. take k xs) (omega arith)
+  below_more n m xs = grind (arith, common_steps)
 
   -- what is left, and then the top
   pub below_last : (n : ℕ) (xs : List A) → xs ≡ below n xs ++ last n xs
@@ -45,20 +40,10 @@ taken_few All height = omega arith
 module _ {A : Type 0} where
   -- a list up to i, in two parts
   pub take_parts : (b i : ℕ) (xs : List A) → b ≤ i → take b xs ++ take (i - b) (drop b xs) ≡ take i xs
-  take_parts b i xs h =
-      let whole : b + (i - b) ≡ i = omega arith in
-      (λ j. sym (take-take b i xs h) j ++ (sym (drop-take b (i - b) xs) ∙ ap (λ k. drop b (take k xs)) whole) j)
-      ∙ take-append-drop b (take i xs)
+  take_parts b i xs h = sym (take-add b (i - b) xs) ∙ ap (λ k. take k xs) (omega arith)
 
   -- the second part, one longer
   pub part_more : (b i : ℕ) (xs : List A) (d : A) → b ≤ i → i < length xs → take (i - b) (drop b xs) ++ get_or xs i d ∷ [] ≡ take (i + 1 - b) (drop b xs)
   part_more b i xs d h lt =
-      ap (λ x. take (i - b) (drop b xs) ++ x ∷ []) (ap (λ k. get_or xs k d) (omega arith) ∙ sym (get_or-drop b xs (i - b) d))
-      ∙ sym (take_more (drop b xs) (i - b) d (omega (arith, length-drop b xs)))
-      ∙ ap (λ k. take k (drop b xs)) (omega arith)
-
-  -- a list copied to the front of a longer one
-  pub copied : (to xs : List A) → take (length xs) (paste to 0 (drop 0 xs) (length xs)) ≡ xs
-  copied to xs =
-      let all = take_all (length xs) xs (omega arith) in
-      take_at (take (length xs) xs) (drop (0 + length xs) to) (length xs) (ap length all) ∙ all
+      let up = take_more (drop b xs) (i - b) d (omega (arith, length-drop b xs)) in
+      grind (arith, get_or-drop b xs (i - b) d)

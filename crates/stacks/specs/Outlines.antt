@@ -1,17 +1,12 @@
 -- An outline: where each scope on a stack began.
-use Rattle.std.specs.Prelude.{◌≡◌, List, [], ◌∷◌, map, take}
+use Rattle.std.specs.Prelude.{◌≡◌, List, [], ◌∷◌, map}
 use Rattle.scopes.specs.declared.scope.Scope.{Scope}
 use Rattle.stacks.specs.declared.ops.BasicScopeStackOp.{BasicScopeStackOp}
 use Rattle.stacks.specs.declared.ops.BasicScopeStackOp.TheVariants.{Push, Pop}
 use Rattle.stacks.specs.declared.outline.Beginning.{Beginning}
-use Rattle.stacks.specs.declared.outline.Outline.{Outline}
 use Rattle.stacks.specs.declared.outline.Place.{Place}
 use Rattle.stacks.specs.Operations.{below}
 use Rattle.stacks.specs.Tellings.{Telling, grown, moved}
-
--- the scopes, lowest first, each with the place of its push
-unfoldable pub outline_of : Outline → List Beginning
-outline_of o = take o.height o.beginnings
 
 -- the scopes alone
 abbrev pub scopes_of : List Beginning → List Scope

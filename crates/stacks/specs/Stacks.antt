@@ -1,7 +1,6 @@
 -- A stack as its users know it: plain lists of scopes.
-use Rattle.std.specs.Prelude.{ℕ, ◌+◌, ◌≤◌, List, [], ◌∷◌, length, take, drop}
+use Rattle.std.specs.Prelude.{◌≡◌, ℕ, ◌+◌, ◌≤◌, List, [], ◌∷◌, length, take, drop, sum}
 use Rattle.scopes.specs.declared.scope.Scope.{Scope}
-use Rattle.stacks.specs.declared.scope_stack.ScopeStack.{ScopeStack}
 
 pub record Stack : Type 0 where
   -- the scopes on it, position 0 lowest
@@ -32,6 +31,8 @@ abbrev pub cut : List ℕ → List Scope → List (List Scope)
 cut [] xs = []
 cut (n ∷ ns) xs = take n xs ∷ cut ns (drop n xs)
 
--- the stack that the memory stands for; what lies past the counts is no part of it
-unfoldable pub stack_of : ScopeStack → Stack
-stack_of s = record { scopes = take s.height s.scopes; asides = cut (take s.count s.sizes) s.aside }
+-- what its memory keeps to: the scopes on it, those set aside behind one another, and the size of each set-aside
+pub record Kept (scopes aside : List Scope) (sizes : List ℕ) : Type 0 where
+  pub fits : length scopes + length aside ≤ 64
+  pub few : length sizes ≤ 64
+  pub adds : sum sizes ≡ length aside

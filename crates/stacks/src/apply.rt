@@ -3,16 +3,16 @@ ghost use Rattle.std.specs.Prelude.{◌≡◌, ◌<◌, length};
 ghost use Rattle.stacks.specs.declared.ops.ScopeStackOp.TheVariants.{Push, Pop, Clear, Restore};
 ghost use Rattle.stacks.specs.declared.ops.BasicScopeStackOp.TheVariants.{Pop as PopTold};
 ghost use Rattle.stacks.specs.Operations.{DoneLaw, Applied, after};
-ghost use Rattle.stacks.specs.Stacks.{stack_of};
 ghost use Rattle.stacks.specs.Tellings.{Chain, TellLaw, told_of};
 
 use crate::faults::OpFault;
 use crate::hook::Hook;
-use crate::limits::exceeds;
 use crate::ops::{ClearAmount, ScopeStackOp};
 use crate::scope_stack::ScopeStack;
 use scopes::Scope;
 
+// stays: the hook and what it is shown go side by side; a struct of both would hold the &mut H, and every clause would
+// have to name the hook behind it before and after
 impl ScopeStack {
     fn apply_push<S, H: Hook<S>>(
         &mut self,
@@ -20,8 +20,8 @@ impl ScopeStack {
         hook: &mut H,
         shown: &S,
     ) -> Result<(), OpFault>
-        ensures stack { Applied (Push scope) (stack_of self.old) result (stack_of self.new) }
-        ensures told { Chain H.told shown.now (told_of (Push scope) (stack_of self.old) result) hook.old hook.new }
+        ensures stack { Applied (Push scope) self.old result self.new }
+        ensures told { Chain H.told shown.now (told_of (Push scope) self.old result) hook.old hook.new }
     {
         self.push(scope)?;
         let now = self.as_slice();
@@ -31,9 +31,9 @@ impl ScopeStack {
 
     // One scope off, and the hook is told with what that leaves.
     fn step_down<S, H: Hook<S>>(&mut self, hook: &mut H, shown: &S)
-        requires { 0 < length (stack_of self.old).scopes }
-        ensures stack { stack_of self.new ≡ after (Pop 1) (stack_of self.old) }
-        ensures told { H.told shown.now PopTold (stack_of self.new).scopes hook.old hook.new }
+        requires { 0 < length self.old.scopes }
+        ensures stack { self.new ≡ after (Pop 1) self.old }
+        ensures told { H.told shown.now PopTold self.new.scopes hook.old hook.new }
     {
         self.lower();
         let now = self.as_slice();
@@ -46,10 +46,10 @@ impl ScopeStack {
         hook: &mut H,
         shown: &S,
     ) -> Result<(), OpFault>
-        ensures stack { Applied (Pop count) (stack_of self.old) result (stack_of self.new) }
-        ensures told { Chain H.told shown.now (told_of (Pop count) (stack_of self.old) result) hook.old hook.new }
+        ensures stack { Applied (Pop count) self.old result self.new }
+        ensures told { Chain H.told shown.now (told_of (Pop count) self.old result) hook.old hook.new }
     {
-        if exceeds(count, self.height()) {
+        if count > self.height() {
             return Err(OpFault::TooFew);
         }
         for _ in 0..count {
@@ -65,8 +65,8 @@ impl ScopeStack {
         hook: &mut H,
         shown: &S,
     ) -> Result<(), OpFault>
-        ensures stack { Applied (Clear amount) (stack_of self.old) result (stack_of self.new) }
-        ensures told { Chain H.told shown.now (told_of (Clear amount) (stack_of self.old) result) hook.old hook.new }
+        ensures stack { Applied (Clear amount) self.old result self.new }
+        ensures told { Chain H.told shown.now (told_of (Clear amount) self.old result) hook.old hook.new }
     {
         let cut = amount.of(self.height());
         self.clear(amount)?;
@@ -78,12 +78,13 @@ impl ScopeStack {
 
     // Each scope is told as it comes back, with the stack up to it.
     fn apply_restore<S, H: Hook<S>>(&mut self, hook: &mut H, shown: &S) -> Result<(), OpFault>
-        ensures stack { Applied Restore (stack_of self.old) result (stack_of self.new) }
-        ensures told { Chain H.told shown.now (told_of Restore (stack_of self.old) result) hook.old hook.new }
+        ensures stack { Applied Restore self.old result self.new }
+        ensures told { Chain H.told shown.now (told_of Restore self.old result) hook.old hook.new }
     {
         let before = self.height();
         self.restore()?;
         let all = self.as_slice();
+        // stays: each scope is told with the slice that ends with it, so its index is wanted beside it
         for i in before..all.len() {
             hook.push(shown, &all[0..i + 1], all[i]);
         }
@@ -96,8 +97,8 @@ impl ScopeStack {
         hook: &mut H,
         shown: &S,
     ) -> Result<(), OpFault>
-        ensures stack { Applied op (stack_of self.old) result (stack_of self.new) }
-        ensures told { Chain H.told shown.now (told_of op (stack_of self.old) result) hook.old hook.new }
+        ensures stack { Applied op self.old result self.new }
+        ensures told { Chain H.told shown.now (told_of op self.old result) hook.old hook.new }
     {
         match op {
             ScopeStackOp::Push(scope) => self.apply_push(scope, hook, shown),
@@ -116,12 +117,14 @@ impl ScopeStack {
         hook: &mut H,
         shown: &S,
     ) -> Result<(), OpFault>
-        ensures stack { Applied op (stack_of self.old) result (stack_of self.new) }
-        ensures done { DoneLaw op (stack_of self.old) }
-        ensures told { Chain H.told shown.now (told_of op (stack_of self.old) result) hook.old hook.new }
-        ensures tells { TellLaw op (stack_of self.old) }
-        ensures follows { H.can hook.old → H.scopes hook.old ≡ (stack_of self.old).scopes → (H.scopes hook.new ≡ (stack_of self.new).scopes) × H.can hook.new }
+        ensures stack { Applied op self.old result self.new }
+        ensures done { DoneLaw op self.old }
+        ensures told { Chain H.told shown.now (told_of op self.old result) hook.old hook.new }
+        ensures tells { TellLaw op self.old }
+        ensures follows { H.can hook.old → H.scopes hook.old ≡ self.old.scopes → (H.scopes hook.new ≡ self.new.scopes) × H.can hook.new }
     {
+        // every stack is within its bounds
+        let _bounds = self.as_slice();
         self.perform(op, hook, shown)
     }
 }

@@ -1,46 +1,46 @@
-// Why a list of scopes or an operation is refused.
+// Why a list of scopes or an operation is refused. The numbers are those of docs/refusals.md.
 ghost use Rattle.std.specs.Prelude.{◌≡◌};
 ghost use Rattle.stacks.specs.Refusals.{stack_number, op_number};
 
-#[derive(Clone, Copy)]
+use thiserror::Error;
+
+#[derive(Clone, Copy, Debug, PartialEq, Eq, Error)]
 pub enum StackFault {
-    // it has more than 64 scopes
-    TooManyScopes,
+    #[error("there are more than 64 scopes")]
+    TooManyScopes = 9,
 }
 
-#[derive(Clone, Copy)]
+#[derive(Clone, Copy, Debug, PartialEq, Eq, Error)]
 pub enum OpFault {
-    // a Push finds 64 scopes on the stack and set aside
-    Full,
-    // a Pop count exceeds the height
-    TooFew,
-    // a Clear finds 64 set-asides
-    ManyAside,
-    // a Restore finds none
-    NoneAside,
+    // of a Push
+    #[error("64 scopes are on the stack and set aside")]
+    Full = 15,
+    // of a Pop
+    #[error("the count exceeds the height")]
+    TooFew = 16,
+    // of a Clear
+    #[error("there are 64 set-asides")]
+    ManyAside = 17,
+    // of a Restore
+    #[error("nothing is set aside")]
+    NoneAside = 18,
 }
 
+// stays: each enum promises the numbers of its own cases; a trait for all would be one more import at every call
 impl StackFault {
-    // The refusal's number, as docs/refusals.md lists it.
+    // The refusal's number.
     pub fn number(self) -> u8
         ensures { result ≡ stack_number self }
     {
-        match self {
-            StackFault::TooManyScopes => 9,
-        }
+        self as u8
     }
 }
 
 impl OpFault {
-    // The refusal's number, as docs/refusals.md lists it.
+    // The refusal's number.
     pub fn number(self) -> u8
         ensures { result ≡ op_number self }
     {
-        match self {
-            OpFault::Full => 15,
-            OpFault::TooFew => 16,
-            OpFault::ManyAside => 17,
-            OpFault::NoneAside => 18,
-        }
+        self as u8
     }
 }

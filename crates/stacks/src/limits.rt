@@ -1,17 +1,2 @@
-// How much a stack may hold.
-ghost use Rattle.std.specs.Prelude.{◌≡◌, nat_le, nat_lt};
-
-// Scopes on the stack and set aside, and set-asides.
+// How many scopes may be on the stack and set aside together, and how many set-asides there may be.
 pub(crate) const MOST: usize = 64;
-
-pub(crate) fn is_most(count: usize) -> bool
-    ensures { result ≡ nat_le 64 count }
-{
-    count >= MOST
-}
-
-pub(crate) fn exceeds(count: usize, limit: usize) -> bool
-    ensures { result ≡ nat_lt limit count }
-{
-    count > limit
-}

@@ -1,7 +1,8 @@
-// The type alone: specs name it, so its methods stand in files of their own.
-ghost use Rattle.std.specs.Prelude.{◌≡◌, ◌+◌, ◌≤◌, length, take, sum};
-
+// The type, and what it is to a proof; its methods stand in files of their own.
+use crate::limits::MOST;
+use arrayvec::ArrayVec;
 use scopes::Scope;
+use std::marker::Model;
 
 pub mod calls;
 mod moves;
@@ -10,16 +11,18 @@ mod moves;
 // size of each.
 #[derive(Drop)]
 pub struct ScopeStack {
-    scopes: [Scope; 64],
-    height: usize,
-    aside: [Scope; 64],
-    kept: usize,
-    sizes: [usize; 64],
-    count: usize,
-    ghost fits: { height + kept ≤ 64 },
-    ghost few: { count ≤ 64 },
-    ghost adds: { sum (take count sizes) ≡ kept },
-    ghost long: { length scopes ≡ 64 },
-    ghost wide: { length aside ≡ 64 },
-    ghost deep: { length sizes ≡ 64 },
+    scopes: ArrayVec<Scope, MOST>,
+    aside: ArrayVec<Scope, MOST>,
+    sizes: ArrayVec<usize, MOST>,
+}
+
+// To a proof it is two plain lists: the scopes, and the set-asides.
+impl Model for ScopeStack {
+    ghost use Rattle.stacks.specs.Stacks.{Stack, Kept, cut};
+
+    ghost Value = { Stack };
+
+    ghost view = { λ s. record { scopes = s.scopes.items; asides = cut s.sizes.items s.aside.items } };
+
+    ghost invariant = { λ s. Kept s.scopes.items s.aside.items s.sizes.items };
 }

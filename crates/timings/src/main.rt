@@ -13,23 +13,16 @@ use std::time::Instant;
 const CALLS: usize = 100000;
 
 fn scope(repository: &mut ScopeRepository, name: &[u8]) -> Scope {
-    match repository.build(name) {
-        Ok(scope) => scope,
-        Err(_) => Scope::empty(),
-    }
+    repository.build(name).unwrap_or_default()
 }
 
 // How many of the calls answer a rank; each call is given another stack, so that none can be left out.
 fn answered<K: Ranking>(path: &[Scope], row: &[Scope; 67]) -> usize {
-    let mut answers: usize = 0;
-    for i in 0..CALLS {
-        let from = i % 4;
-        match K::path(path, &row[from..from + 64]) {
-            Some(_) => answers = answers.saturating_add(1),
-            None => {}
-        }
-    }
-    answers
+    row.windows(64)
+        .cycle()
+        .take(CALLS)
+        .filter(|stack| K::path(path, stack).is_some())
+        .count()
 }
 
 fn print(rt: &HostRuntime, what: &str, start: Instant, answers: usize) -> io::Result<()> {

@@ -1,6 +1,6 @@
 // Prefixes: two names, and whether the first is a prefix of the second, `true` or `false`; tabs between.
-use crate::Record;
 use lines::split;
+use records::Record;
 use repository::ScopeRepository;
 
 pub(crate) struct Prefixes;
@@ -15,10 +15,7 @@ impl Record for Prefixes {
         let Ok(s) = repository.build(second) else {
             return false;
         };
-        if p.is_prefix_of(s) {
-            answer == b"true".as_slice()
-        } else {
-            answer == b"false".as_slice()
-        }
+        let told: &[u8] = if p.is_prefix_of(s) { b"true" } else { b"false" };
+        answer == told
     }
 }

@@ -1,24 +1,10 @@
 // Rules of docs/scopes.md and docs/names.md, tried on each name that is built.
-use crate::Record;
 use lines::split;
-use repository::{NameFault, ScopeRepository, WriteFault};
+use records::Record;
+use repository::{ScopeRepository, WriteFault};
 use scopes::Scope;
 
 pub(crate) struct Rules;
-
-fn is_scope(answer: Result<Scope, NameFault>, scope: Scope) -> bool {
-    match answer {
-        Ok(again) => again == scope,
-        Err(_) => false,
-    }
-}
-
-fn is_refused(answer: Result<usize, WriteFault>, number: u8) -> bool {
-    match answer {
-        Ok(_) => false,
-        Err(fault) => fault.number() == number,
-    }
-}
 
 // The words of a scope are the scope, and it is empty exactly if it has no atoms.
 fn is_its_words(scope: Scope) -> bool {
@@ -32,31 +18,41 @@ fn is_its_words(scope: Scope) -> bool {
 // A repository that gave out no number refuses every scope but the empty one.
 fn is_unknown_elsewhere(scope: Scope) -> bool {
     let mut output = [0u8; 1024];
-    scope.is_empty() || is_refused(ScopeRepository::new().write(scope, &mut output), 6)
+    scope.is_empty()
+        || ScopeRepository::new().write(scope, &mut output) == Err(WriteFault::UnknownAtom)
 }
 
-// An output of this length is too short for its name.
-fn is_too_short(repository: &ScopeRepository, scope: Scope, len: usize) -> bool {
-    let mut output = [0u8; 1024];
-    len <= 1024 && is_refused(repository.write(scope, &mut output[0..len]), 7)
+// A scope, and how many bytes its name has.
+#[derive(Clone, Copy)]
+struct Spelled {
+    scope: Scope,
+    len: usize,
 }
 
-// Its name has just this length; built again, it is the scope.
-fn is_built_again(repository: &mut ScopeRepository, scope: Scope, len: usize) -> bool {
-    let mut output = [0u8; 1024];
-    if len > 1024 {
-        return false;
+impl Spelled {
+    // An output one byte shorter is too short for its name.
+    fn is_too_short(self, repository: &ScopeRepository) -> bool {
+        let mut output = [0u8; 1024];
+        let Some(room) = output.get_mut(..self.len.saturating_sub(1)) else {
+            return false;
+        };
+        repository.write(self.scope, room) == Err(WriteFault::ShortOutput)
     }
-    let name = &mut output[0..len];
-    match repository.write(scope, name) {
-        Ok(count) => count == len && is_scope(repository.build(name), scope),
-        Err(_) => false,
-    }
-}
 
-// The empty name is left out: it is that of the empty scope and of one empty atom.
-fn is_written_back(repository: &mut ScopeRepository, scope: Scope, len: usize) -> bool {
-    len == 0 || (is_too_short(repository, scope, len - 1) && is_built_again(repository, scope, len))
+    // Its name has just this length; built again, it is the scope.
+    fn is_built_again(self, repository: &mut ScopeRepository) -> bool {
+        let mut output = [0u8; 1024];
+        let Some(name) = output.get_mut(..self.len) else {
+            return false;
+        };
+        repository.write(self.scope, name) == Ok(self.len)
+            && repository.build(name) == Ok(self.scope)
+    }
+
+    // The empty name is left out: it is that of the empty scope and of one empty atom.
+    fn is_written_back(self, repository: &mut ScopeRepository) -> bool {
+        self.len == 0 || (self.is_too_short(repository) && self.is_built_again(repository))
+    }
 }
 
 impl Record for Rules {
@@ -67,8 +63,10 @@ impl Record for Rules {
         };
         let (_, rest) = split(answer, b'\t');
         let (_, written) = split(rest, b'\t');
-        is_its_words(scope)
-            && is_unknown_elsewhere(scope)
-            && is_written_back(repository, scope, written.len())
+        let spelled = Spelled {
+            scope,
+            len: written.len(),
+        };
+        is_its_words(scope) && is_unknown_elsewhere(scope) && spelled.is_written_back(repository)
     }
 }

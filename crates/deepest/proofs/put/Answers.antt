@@ -20,7 +20,7 @@ room : (c : goal.Start) → RoomAt c.args.index (after c) c.args.position
 room c =
     let e : c.args.position ≡ place c + 16 * c.args.index = omega arith in
     let l : place c < 16 = omega arith in
-    room_take c.args.index c.args.word c.args.digit c.args.position (place c) (after c) c.requires.0 e l c.requires.1.1.1 (exact c)
+    room_take c.args.index c.args.word c.args.digit c.args.position (place c) (after c) c.requires.few e l c.requires.room (exact c)
 
 pub overflow_add-result : goal.overflow_add-result
 overflow_add-result c = omega (arith, room_word c.args.index (after c) c.args.position (room c))

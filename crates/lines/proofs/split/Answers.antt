@@ -1,22 +1,17 @@
-use Rattle.std.proofs.Common.{◌≡◌, ◌+◌, ◌-◌, length, ap, arith}
-use Rattle.std.proofs.ByRecursion.{All-more}
-use Rattle.lines.proofs.Cut.{splits_here, splits_all, rest_none, rest_short}
+use Rattle.std.proofs.Common.{◌≡◌, ◌≢◌, ℕ, ◌<◌, length, get_or, rules}
+use Rattle.lines.proofs.Splitting.{splits_here, splits_all}
 use Rattle.lines.proofs.split.Goals as goal
 
-pub returns-then-text-i : goal.returns-then-text-i
-returns-then-text-i c = record {
-  splits = splits_here c.args.text.now c.args.byte c.loop-i.i c.loop-i.invariant c.loop-i-test.true c.if-text-i.true;
-  shorter = λ _. rest_short c.args.text.now c.loop-i.i (length c.args.text.now - (c.loop-i.i + 1)) c.loop-i-test.true;
-}
-
-pub loop-i-preserved : goal.loop-i-preserved
-loop-i-preserved c = All-more (λ b. b ≡ c.args.byte → ⊥) c.args.text.now c.loop-i.i 0 c.loop-i-test.true c.loop-i.invariant c.if-text-i.false
-
-pub returns : goal.returns
-returns c =
+pub returns-in-Some-clause-splits : goal.returns-in-Some-clause-splits
+returns-in-Some-clause-splits c =
     let text = c.args.text.now in
-    let none = rest_none text (length text - length text) in
-    record {
-      splits = splits_all text c.args.byte c.loop-i.i c.loop-i.invariant c.loop-i-test.false _ none;
-      shorter = λ some. omega (arith, ap length none);
-    }
+    let i = c.in-Some.i in
+    let inside : i < length text = search rules in
+    let found : get_or text i 0 ≡ c.args.byte = search rules in
+    let before : (k : ℕ) → k < i → get_or text k 0 ≢ c.args.byte = search rules in
+    splits_here text c.args.byte i inside found before
+
+pub returns-in-None-clause-splits : goal.returns-in-None-clause-splits
+returns-in-None-clause-splits c =
+    let before : (k : ℕ) → k < length c.args.text.now → get_or c.args.text.now k 0 ≢ c.args.byte = search rules in
+    splits_all c.args.text.now c.args.byte before

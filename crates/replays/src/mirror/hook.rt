@@ -17,15 +17,11 @@ impl<S> Hook<S> for Mirror {
     ghost moves = { λ shown op stack m n told room. (told, tt) };
 
     fn push(&mut self, _shown: &S, _stack: &[Scope], scope: Scope) {
-        if self.height < 64 {
-            self.scopes[self.height] = scope;
-            self.height += 1;
-        }
+        // at 64 scopes it is ignored
+        let _full = self.scopes.try_push(scope);
     }
 
     fn pop(&mut self, _shown: &S, _stack: &[Scope]) {
-        if self.height > 0 {
-            self.height -= 1;
-        }
+        self.scopes.pop();
     }
 }

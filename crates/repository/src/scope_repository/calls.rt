@@ -27,6 +27,7 @@ impl ScopeRepository {
     }
 
     // How many atoms are held.
+    #[tactic(auto, using(crate::proofs::Ends::counted, crate::proofs::Owned::owned))]
     pub fn atoms(&self) -> usize
         ensures { result ≡ length (atoms_of self.now) }
     {
@@ -34,6 +35,7 @@ impl ScopeRepository {
     }
 
     // How many bytes their text has.
+    #[tactic(auto, using(crate::proofs::Ends::counted, crate::proofs::Owned::owned))]
     pub fn bytes(&self) -> usize
         ensures { result ≡ total (atoms_of self.now) }
     {
@@ -41,6 +43,7 @@ impl ScopeRepository {
     }
 
     // The scope of a name. New atoms are added, unless the name is refused.
+    #[tactic(auto, using(crate::proofs::Owned::owned, crate::proofs::Returning::new_law, crate::proofs::Returning::returns_built))]
     pub fn build(&mut self, name: &[u8]) -> Result<Scope, NameFault>
         ensures builds { Builds (atoms_of self.old) name.now result (atoms_of self.new) }
         ensures cut { CutLaw name.now }
@@ -51,17 +54,19 @@ impl ScopeRepository {
     }
 
     // Writes a scope's name to the beginning of an output, and answers how many bytes it has.
+    #[tactic(auto, using(crate::proofs::Owned::owned))]
     pub fn write(&self, scope: Scope, output: &mut [u8]) -> Result<usize, WriteFault>
         ensures writes { Writes (atoms_of self.now) scope output.old result output.new }
         ensures within { IfOk result (λ n. n ≤ length output.old) }
     {
-        let Some(len) = self.counts.name_len(&self.tables, scope) else {
+        let held = self.counts.held(&self.tables);
+        let Some(len) = held.name_len(scope) else {
             return Err(WriteFault::UnknownAtom);
         };
         if output.len() < len {
             return Err(WriteFault::ShortOutput);
         }
-        self.counts.write_name(&self.tables, scope, output);
+        held.write_name(scope, output);
         Ok(len)
     }
 }

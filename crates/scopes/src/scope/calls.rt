@@ -38,12 +38,6 @@ fn unused_bits(w: u64) -> u32
     w.trailing_zeros() / 16 * 16
 }
 
-fn are_same(x: u64, y: u64) -> bool
-    ensures { result ≡ (x == y) }
-{
-    x == y
-}
-
 // Whether two words are the same but for some bits at their end.
 fn same_above(x: u64, y: u64, low: u32) -> bool
     requires { low < 64 }
@@ -118,7 +112,7 @@ impl Scope {
         ensures test { result ≡ begins self other }
     {
         if self.b != 0 {
-            are_same(self.a, other.a) && same_above(self.b, other.b, unused_bits(self.b))
+            self.a == other.a && same_above(self.b, other.b, unused_bits(self.b))
         } else if self.a != 0 {
             same_above(self.a, other.a, unused_bits(self.a))
         } else {

@@ -1,12 +1,12 @@
 // The operations on the memory alone. Whatever follows the stack is told in `apply`.
-ghost use Rattle.std.specs.Prelude.{◌≡◌, ◌+◌, ◌<◌, ◌≤◌, length, drop};
-ghost use Rattle.std.proofs.Math.Seq.{paste};
+#![tactic(auto, using(crate::proofs::Memory::counted))]
+
+ghost use Rattle.std.specs.Prelude.{◌≡◌, ◌<◌, length};
 ghost use Rattle.stacks.specs.declared.ops.ScopeStackOp.TheVariants.{Push, Pop, Clear, Restore};
 ghost use Rattle.stacks.specs.Operations.{taken, after, Applied};
-ghost use Rattle.stacks.specs.Stacks.{stack_of};
 
 use crate::faults::OpFault;
-use crate::limits::is_most;
+use crate::limits::MOST;
 use crate::ops::ClearAmount;
 use crate::scope_stack::ScopeStack;
 use scopes::Scope;
@@ -23,63 +23,54 @@ impl ClearAmount {
     }
 }
 
-// Copies some scopes, in their order, to a place that has room for them.
-pub(crate) fn copy(to: &mut [Scope], at: usize, from: &[Scope], start: usize, count: usize)
-    requires room { at + count ≤ length to.old }
-    requires there { start + count ≤ length from.now }
-    ensures { to.new ≡ paste to.old at (drop start from.now) count }
-{
-    to[at..at + count].copy_from_slice(&from[start..start + count]);
-}
-
 impl ScopeStack {
     pub(crate) fn push(&mut self, scope: Scope) -> Result<(), OpFault>
-        ensures { Applied (Push scope) (stack_of self.old) result (stack_of self.new) }
+        ensures { Applied (Push scope) self.old result self.new }
     {
-        if is_most(self.height + self.kept) {
+        if self.scopes.len() + self.aside.len() >= MOST {
             return Err(OpFault::Full);
         }
-        self.scopes[self.height] = scope;
-        self.height += 1;
+        self.scopes.push(scope);
         Ok(())
     }
 
     // One scope fewer, of some.
     pub(crate) fn lower(&mut self)
-        requires { 0 < length (stack_of self.old).scopes }
-        ensures { stack_of self.new ≡ after (Pop 1) (stack_of self.old) }
+        requires { 0 < length self.old.scopes }
+        ensures { self.new ≡ after (Pop 1) self.old }
     {
-        self.height -= 1;
+        self.scopes.pop();
     }
 
     pub(crate) fn clear(&mut self, amount: ClearAmount) -> Result<(), OpFault>
-        ensures { Applied (Clear amount) (stack_of self.old) result (stack_of self.new) }
+        ensures { Applied (Clear amount) self.old result self.new }
     {
-        if is_most(self.count) {
+        if self.sizes.is_full() {
             return Err(OpFault::ManyAside);
         }
-        let count = amount.of(self.height);
-        let left = self.height - count;
-        copy(&mut self.aside, self.kept, &self.scopes, left, count);
-        self.sizes[self.count] = count;
-        self.count += 1;
-        self.kept += count;
-        self.height = left;
+        let count = amount.of(self.scopes.len());
+        let left = self.scopes.len() - count;
+        // there is room: the scopes on the stack and those aside are at most 64 together
+        self.aside
+            .try_extend_from_slice(&self.scopes[left..])
+            .unwrap();
+        self.sizes.push(count);
+        self.scopes.truncate(left);
         Ok(())
     }
 
     pub(crate) fn restore(&mut self) -> Result<(), OpFault>
-        ensures { Applied Restore (stack_of self.old) result (stack_of self.new) }
+        ensures { Applied Restore self.old result self.new }
     {
-        if self.count == 0 {
+        let Some(size) = self.sizes.pop() else {
             return Err(OpFault::NoneAside);
-        }
-        let size = self.sizes[self.count - 1];
-        let left = self.kept - size;
-        copy(&mut self.scopes, self.height, &self.aside, left, size);
-        self.count -= 1;
-        self.kept = left;
-        self.height += size;
+        };
+        let left = self.aside.len() - size;
+        // as in `clear`, there is room
+        self.scopes
+            .try_extend_from_slice(&self.aside[left..])
+            .unwrap();
+        self.aside.truncate(left);
         Ok(())
     }
 }

@@ -1,10 +1,9 @@
-use Rattle.std.proofs.Common.{◌≡◌, ◌<◌, ◌≤◌, [], length, take, drop}
+use Rattle.std.proofs.Common.{◌≡◌, ◌≤◌, [], length, drop}
 use Rattle.earliest.proofs.Entries.{listed}
 use Rattle.earliest.proofs.places.lay_on.Given as goal
 
-abbrev pub invariant-loop-i : goal.invariant-loop-i
-invariant-loop-i l =
-    (l.k < length l.path)
-    × (l.k ≤ l.i)
-    × (length l.laid ≡ 64)
-    × (listed (take l.k l.laid) (drop l.k l.path) (drop l.i l.stack) l.i ≡ listed [] l.path l.stack 0)
+abbrev pub invariant-loop-scope : goal.invariant-loop-scope
+invariant-loop-scope l =
+    (l.from ≤ length l.stack)
+    × (length l.laid.items ≤ l.from)
+    × (listed l.laid.items (drop l.scope-index l.path) (drop l.from l.stack) l.from ≡ listed [] l.path l.stack 0)

@@ -1,4 +1,4 @@
-use Rattle.std.proofs.Common.{◌≡◌, ℕ, List, Some, Ok, subst, arith, Bor}
+use Rattle.std.proofs.Common.{◌≡◌, ℕ, List, Some, Ok, subst, Bor}
 use Rattle.scopes.specs.declared.scope.Scope.{Scope}
 use Rattle.repository.specs.Builds.{Builds}
 use Rattle.repository.specs.Names.{Atoms}
@@ -11,10 +11,10 @@ use Rattle.plays.proofs.play.operation_of.Goals as goal
 -- an action with a name is a push of it
 named : (action : Action) (held after : Atoms) (x : Scope) (name : Bor (List ℕ)) → Names action (Some name) → Builds held name.now (Ok x) after → Named action held x after
 named (Push n) held after x name e b = let same : name ≡ n = cc in subst (λ r. Builds held r.now (Ok x) after) same b
-named (Pop n) held after x name e b = let z : ◌≡◌ {A = ℕ} 0 1 = cc in absurd (omega arith)
-named (Clear a) held after x name e b = let z : ◌≡◌ {A = ℕ} 0 1 = cc in absurd (omega arith)
-named Restore held after x name e b = let z : ◌≡◌ {A = ℕ} 0 1 = cc in absurd (omega arith)
-named Noop held after x name e b = let z : ◌≡◌ {A = ℕ} 0 1 = cc in absurd (omega arith)
+named (Pop n) held after x name e b = cc
+named (Clear a) held after x name e b = cc
+named Restore held after x name e b = cc
+named Noop held after x name e b = cc
 
 pub returns-in_ok-scope-in-Some : goal.returns-in_ok-scope-in-Some
 returns-in_ok-scope-in-Some c = record {

@@ -10,8 +10,3 @@ returns-in_err-n c =
 pub loop-b-preserved : goal.loop-b-preserved
 loop-b-preserved c =
     number_next c.args.w.now c.loop-b.b-index c.loop-b-test.true c.loop-b.n c.in_ok-n.n c.loop-b.invariant c.in_ok-n.ensures
-
-pub returns : goal.returns
-returns c =
-    let some = eqb-false (length c.args.w.now) 0 (sym c.if-is_empty.ensures) in
-    number_all c.args.w.now c.loop-b.b-index c.loop-b.n (omega arith) c.loop-b-test.false c.loop-b.invariant

@@ -1,6 +1,5 @@
 use Rattle.stacks.specs.declared.outline.Place.{Place}
 use Rattle.stacks.proofs.Places.{chain_outlines}
-use Rattle.stacks.specs.Stacks.{stack_of}
 use Rattle.stacks.specs.Tellings.{told_of}
 use Rattle.plays.proofs.traced.Traced.apply.Goals as goal
 
@@ -12,6 +11,6 @@ returns c =
     let place : Place = record { line = c.args.line; position = c.args.change.position } in
     record {
       stack = made.stack;
-      outline = chain_outlines place (told_of op (stack_of t.stack) c.apply.result) t.outline c.apply.new.hook made.told;
-      follows = λ same. (made.follows tt same).0;
+      outline = chain_outlines place (told_of op t.stack c.apply.result) t.outline c.apply.new.hook made.told;
+      follows = (made.follows tt t.follows).0;
     }

@@ -1,4 +1,5 @@
 use Rattle.std.proofs.Common.{◌≡◌, ◌/◌, ◌^◌, Bool, true, ◌&&◌, eqb, sym, ap, ◌∙◌, arith}
+use Rattle.std.proofs.lemmas.Bool.Decides.{nat_tests}
 use Rattle.scopes.specs.Fields.{fields, used, starts}
 use Rattle.scopes.specs.Scopes.{atoms_in, fields_in}
 use Rattle.scopes.proofs.Words.{starts_some, starts_none, prefix_by}
@@ -7,11 +8,12 @@ use Rattle.scopes.proofs.scope.Scope.is_prefix_of.Goals as goal
 first : (t z : Bool) → t ≡ true → z ≡ (t && z)
 first t z e = simp e
 
-pub returns-then-are_same : goal.returns-then-are_same
+pub returns-then-self-other : goal.returns-then-self-other
 unfolding atoms_in fields_in
-returns-then-are_same c =
+returns-then-self-other c =
+    let same : eqb c.args.self.a c.args.other.a ≡ true = grind (arith, nat_tests) in
     let told = c.same_above.ensures ∙ ap (λ n. eqb (c.args.self.b / 2 ^ n) (c.args.other.b / 2 ^ n)) c.unused_bits.ensures in
-    let e = told ∙ first _ _ (sym c.are_same.ensures ∙ c.if-are_same.true) ∙ sym (starts_some c.args.self.a c.args.self.b (omega arith) (omega arith) c.args.self.used_first c.args.other.a c.args.other.b (omega arith) (omega arith) c.if-self-ne0.true) in
+    let e = told ∙ first _ _ same ∙ sym (starts_some c.args.self.a c.args.self.b (omega arith) (omega arith) c.args.self.used_first c.args.other.a c.args.other.b (omega arith) (omega arith) c.if-self-ne0.true) in
     record { decides = prefix_by _ (used (fields c.args.self.a c.args.self.b)) _ e; test = e }
 
 pub returns-then-self-ne0-2 : goal.returns-then-self-ne0-2

@@ -2,11 +2,10 @@ use Rattle.std.proofs.Common.{◌≡◌, Ok, Err, Result, sym, ap, ◌∙◌}
 use Rattle.stacks.specs.declared.faults.OpFault.{OpFault}
 use Rattle.stacks.specs.declared.ops.ScopeStackOp.{ScopeStackOp}
 use Rattle.stacks.specs.Operations.{Applied}
-use Rattle.stacks.specs.Stacks.{Stack, Within, stack_of}
+use Rattle.stacks.specs.Stacks.{Stack, Within}
 use Rattle.stacks.specs.Tellings.{told_of}
 use Rattle.stacks.proofs.Chains.{moved_all, chain_moves}
 use Rattle.stacks.proofs.Laws.{lawful, led, told}
-use Rattle.stacks.proofs.Memory.{within}
 use Rattle.stacks.proofs.scope_stack.ScopeStack.apply.Goals as goal
 
 -- what was told leads from the scopes before to those after
@@ -17,17 +16,17 @@ reached op s t (Err f) w a = ap (λ (u : Stack). u.scopes) (sym a.same)
 pub returns : goal.returns
 returns g c =
     let m = g.H.Hook in
-    let s = stack_of c.args.self.now in
-    let t = stack_of c.perform.new.self in
+    let s = c.args.self.now in
+    let t = c.perform.new.self in
     let made = c.perform.ensures in
     let ts = told_of c.args.op s c.perform.result in
     record {
       stack = made.stack;
       done = lawful c.args.op s;
       told = made.told;
-      tells = told c.args.op s (within c.args.self.now);
+      tells = told c.args.op s c.as_slice-bounds.ensures.within;
       follows =
           λ room same.
           let moved = chain_moves m.told c.args.shown.now m.scopes m.can m.moves ts c.args.hook.now c.perform.new.hook made.told room in
-          (moved.0 ∙ ap (moved_all ts) same ∙ reached c.args.op s t c.perform.result (within c.args.self.now) made.stack, moved.1);
+          (moved.0 ∙ ap (moved_all ts) same ∙ reached c.args.op s t c.perform.result c.as_slice-bounds.ensures.within made.stack, moved.1);
     }

@@ -1,8 +1,5 @@
-use Rattle.std.proofs.Common.{rules}
-use Rattle.stacks.specs.Stacks.{stack_of}
 use Rattle.stacks.proofs.Memory.{within}
 use Rattle.stacks.proofs.scope_stack.ScopeStack.as_slice.Goals as goal
 
-pub returns : goal.returns
-unfolding stack_of
-returns c = record { scopes = search rules; within = within c.args.self.now }
+pub returns-clause-within : goal.returns-clause-within
+returns-clause-within c = within _ _ c.self.view_is c.self.invariant

@@ -1,0 +1,2 @@
+-- Turns: one more name.
+pub mod Turns

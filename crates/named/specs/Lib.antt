@@ -1,0 +1,2 @@
+-- Names: what the names in a text come to.
+pub mod Names

@@ -1,0 +1,2 @@
+-- Spelled: a name that was written is the scope's.
+pub mod Spelled

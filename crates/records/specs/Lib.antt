@@ -1,0 +1,2 @@
+-- WrittenBack: what it is to be a scope's name.
+pub mod WrittenBack
