@@ -1,7 +1,8 @@
 // A script as it is played, directive by directive, without a word of output.
-ghost use Rattle.std.specs.Prelude.{◌≡◌, IfOk, Ok, MatchResult};
+ghost use Rattle.std.specs.Prelude.{◌≡◌, false, [], IfOk, Ok, None, MatchResult};
 ghost use Rattle.repository.specs.Builds.{Builds};
 ghost use Rattle.repository.specs.Held.{atoms_of};
+ghost use Rattle.stacks.specs.Stacks.{started};
 ghost use Rattle.plays.specs.Follows.{Follows};
 ghost use Rattle.plays.specs.Makes.{Makes};
 ghost use Rattle.plays.specs.Plays.{lines_of, Opens, Changes, Asks, Starts, Unplayed, Played, Plays};
@@ -126,7 +127,13 @@ fn make(opened: Opened, traced: &mut Traced, change: Change) -> Result<(), Refus
 impl Play {
     // Nothing played yet.
     pub fn new() -> Play
-        ensures { Follows result.traced }
+        ensures atoms { atoms_of result.repository ≡ [] }
+        ensures stack { result.traced.stack ≡ started [] }
+        ensures outline { result.traced.outline ≡ [] }
+        ensures unstarted { result.started ≡ false }
+        ensures unopened { result.opened ≡ None }
+        ensures tally { result.tally ≡ record { changes = 0; accepted = 0; refused = 0 } }
+        ensures follows { Follows result.traced }
     {
         Play {
             repository: ScopeRepository::new(),

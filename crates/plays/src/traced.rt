@@ -1,5 +1,5 @@
 // A stack is changed together with the outline that follows it.
-ghost use Rattle.std.specs.Prelude.{◌≡◌, length, Some, None, MatchResult};
+ghost use Rattle.std.specs.Prelude.{◌≡◌, [], length, Some, None, MatchResult};
 ghost use Rattle.std.specs.List.{slice_get};
 ghost use Rattle.stacks.specs.Operations.{Applied};
 ghost use Rattle.stacks.specs.Outlines.{scopes_of, begun, outlines};
@@ -23,7 +23,9 @@ impl Traced {
 
     // No scope on the stack.
     pub fn new() -> Traced
-        ensures { Follows result }
+        ensures stack { result.stack ≡ started [] }
+        ensures outline { result.outline ≡ [] }
+        ensures follows { Follows result }
     {
         Traced {
             stack: ScopeStack::new(),

@@ -1,4 +1,6 @@
 // Files that a user names, and what is said where one cannot be read.
+ghost use Rattle.std.specs.Prelude.{◌<◌, length, IfOk};
+
 use std::alloc::AllocError;
 use std::io::ErrorKind;
 use std::{fs, io};
@@ -39,7 +41,9 @@ fn reason(kind: ErrorKind) -> Option<&'static str> {
 }
 
 // The bytes of a file that is not empty.
-pub fn read(rt: &HostRuntime, path: &str, expected: &str) -> Result<Vec<u8>, Stopped> {
+pub fn read(rt: &HostRuntime, path: &str, expected: &str) -> Result<Vec<u8>, Stopped>
+    ensures { IfOk result (λ bytes. 0 < length bytes.items) }
+{
     match fs::read(rt, path) {
         Ok(bytes) => {
             if bytes.is_empty() {
