@@ -3,10 +3,15 @@ use Rattle.std.proofs.Common.{◌≡◌, ℕ, suc, ◌+◌, ◌-◌, ◌*◌, �
 use Rattle.scopes.specs.declared.scope.Scope.{Scope}
 use Rattle.rankings.specs.Layings.{atoms, Lays}
 use Rattle.rankings.specs.declared.Laid.{Laid}
-use Rattle.deepest.specs.Worths.{worth, weight}
+use Rattle.deepest.specs.Worths.{worth}
 use Rattle.rankings.specs.Places.{laid_scopes}
 use Rattle.deepest.specs.Manual.{turned, deepest_first, Wins, AllSome, Manual}
 use Rattle.rankings.proofs.Atoms.{atoms_few}
+
+-- what some laid scopes are worth
+abbrev weight : List Laid → ℕ
+weight [] = 0
+weight (x ∷ xs) = x.atoms * 2 ^ (4 * x.position) + weight xs
 
 -- from the deepest on they lie below q, each below the one before, and have 1 to 8 atoms
 abbrev Falls : ℕ → List Laid → Type 0

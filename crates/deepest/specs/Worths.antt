@@ -2,7 +2,6 @@
 use Rattle.std.specs.Prelude.{ℕ, ◌+◌, ◌-◌, ◌*◌, ◌/◌, ◌%◌, ◌^◌, ◌<◌, ◌≤◌, min, List, [], ◌∷◌}
 use Rattle.scopes.specs.declared.scope.Scope.{Scope}
 use Rattle.rankings.specs.Layings.{atoms}
-use Rattle.rankings.specs.declared.Laid.{Laid}
 use Rattle.deepest.specs.declared.Digits.{Digits}
 
 -- a path laid at some positions: the digit at each is how many atoms lie there
@@ -10,16 +9,6 @@ abbrev pub worth : List Scope → List ℕ → ℕ
 worth [] qs = 0
 worth (s ∷ path) [] = 0
 worth (s ∷ path) (q ∷ qs) = atoms s * 2 ^ (4 * q) + worth path qs
-
--- the same of laid scopes
-abbrev pub weight : List Laid → ℕ
-weight [] = 0
-weight (x ∷ xs) = x.atoms * 2 ^ (4 * x.position) + weight xs
-
--- laid scopes from the deepest one on: they lie below q, each below the one before, and have at most eight atoms
-abbrev pub Descends : ℕ → List Laid → Type 0
-Descends q [] = Unit {0}
-Descends q (x ∷ xs) = (x.position < q) × (x.atoms ≤ 8) × Descends x.position xs
 
 -- the four words as one whole number
 abbrev pub value : Digits → ℕ

@@ -5,13 +5,12 @@
 ghost use Rattle.std.specs.Prelude.{◌≡◌, ℕ, ◌+◌, ◌*◌, ◌^◌, ◌<◌, ◌≤◌, length, take, nat_le};
 ghost use Rattle.rankings.specs.Layings.{HighestFit};
 ghost use Rattle.rankings.specs.Ranks.{near_atoms, near_position};
-ghost use Rattle.deepest.specs.Worths.{value, Words, RoomAt, Room, lone_digits, weight, Descends};
+ghost use Rattle.deepest.specs.Worths.{value, Words, RoomAt, Room, lone_digits};
 ghost use Rattle.deepest.specs.Best.{BestIsHighest, Highest, path_digits};
 ghost use Rattle.deepest.specs.Manual.{Manual};
-ghost use Rattle.deepest.specs.Tops.{LaidDown, LaidTop};
+ghost use Rattle.deepest.specs.Tops.{LaidTop};
 ghost use Rattle.deepest.specs.BestLaws;
 
-use arrayvec::ArrayVec;
 use rankings::{Laid, Places, Ranking, lowest, near_atoms, near_position};
 use scopes::Scope;
 
@@ -88,61 +87,70 @@ fn highest_fit(scope: Scope, stack: &[Scope]) -> Option<usize>
     stack.iter().rposition(|other| scope.is_prefix_of(*other))
 }
 
-// The highest laying of a path, its last scope first: from the top of the stack down, each takes the first place that it fits.
-fn lay_down(path: &[Scope], stack: &[Scope]) -> Option<ArrayVec<Laid, 64>>
+// The digits of the highest laying, from the top of the stack down: each scope, the last one first, takes the first place that it fits.
+// stays: a rank is asked far more often than a laying, and places take longer to write out than a short search
+fn search_down(path: &[Scope], stack: &[Scope]) -> Option<Digits>
     requires { length stack.now ≤ 64 }
-    ensures { LaidDown path.now stack.now result }
+    ensures { Highest path.now stack.now result }
 {
     if path.is_empty() {
         return None;
     }
-    let mut laid = ArrayVec::new();
+    let mut rank = Digits::default();
     let mut left = path;
     let mut below = stack;
     while let Some((scope, rest)) = left.split_last() {
         let position = highest_fit(*scope, below)?;
-        laid.push(Laid {
-            atoms: scope.len(),
-            position,
-        });
+        rank = with_digit(rank, scope.len(), position);
         left = rest;
         below = &below[..position];
     }
-    Some(laid)
-}
-
-// The digits of laid scopes, the deepest one first.
-fn digits_of(laid: &[Laid]) -> Digits
-    requires { Descends 64 laid.now }
-    ensures words { Words result }
-    ensures value { value result ≡ weight laid.now }
-{
-    let mut rank = Digits::default();
-    for scope in laid {
-        rank = with_digit(rank, scope.atoms, scope.position);
-    }
-    rank
+    Some(rank)
 }
 
 // The rank of a path on a stack: the highest of its layings.
-#[tactic(auto, using(crate::specs::BestLaws::best_highest, crate::proofs::Rules::manual))]
+#[tactic(auto, using(crate::specs::BestLaws::best_highest, crate::specs::BestLaws::found, crate::proofs::Rules::manual))]
 pub fn path(path: &[Scope], stack: &[Scope]) -> Option<Digits>
     ensures rank { result ≡ path_digits path.now (take 64 stack.now) }
     ensures highest { Highest path.now (take 64 stack.now) result }
     ensures best { BestIsHighest }
     ensures manual { Manual }
 {
-    let laid = lay_down(path, lowest(stack))?;
-    Some(digits_of(laid.as_slice()))
+    search_down(path, lowest(stack))
+}
+
+// The same search, for the places themselves.
+// stays: the entries are written where they are answered, as a row of them would be made, turned round and copied
+fn lay_down(path: &[Scope], stack: &[Scope]) -> Option<Places>
+    requires { length stack.now ≤ 64 }
+    ensures { LaidTop path.now stack.now result }
+{
+    if path.is_empty() || path.len() > stack.len() {
+        return None;
+    }
+    let mut laid = [Laid::default(); 64];
+    let mut left = path;
+    let mut below = stack;
+    while let Some((scope, rest)) = left.split_last() {
+        let position = highest_fit(*scope, below)?;
+        laid[rest.len()] = Laid {
+            atoms: scope.len(),
+            position,
+        };
+        left = rest;
+        below = &below[..position];
+    }
+    Some(Places {
+        laid,
+        count: path.len(),
+    })
 }
 
 // A laying that is worth the most, and none exactly if the path has no rank.
 pub fn lay(path: &[Scope], stack: &[Scope]) -> Option<Places>
     ensures { LaidTop path.now (take 64 stack.now) result }
 {
-    let mut laid = lay_down(path, lowest(stack))?;
-    laid.reverse();
-    Some(Places { laid })
+    lay_down(path, lowest(stack))
 }
 
 // Whether one rank is not above another.

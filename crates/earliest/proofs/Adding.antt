@@ -1,39 +1,42 @@
--- The score of a laying that is written out.
-use Rattle.std.proofs.Common.{◌≡◌, ℕ, suc, ◌≤◌, List, [], ◌∷◌, length, Some, None, Option, ◌≢◌, sym, refl, ap, ◌∙◌, arith}
+-- A turn of the loop that lays a path and adds its terms.
+use Rattle.std.proofs.Common.{◌≡◌, ℕ, ◌+◌, ◌<◌, ◌≤◌, List, [], ◌∷◌, length, drop, Some, None, Option, sym, refl, ap, ◌∙◌, arith}
 use Rattle.std.specs.Prelude.{to_bits, Float}
 use Rattle.std.specs.Float.{binary64}
 use Rattle.scopes.specs.declared.scope.Scope.{Scope}
-use Rattle.rankings.specs.Layings.{atoms, Lays, Layable}
-use Rattle.rankings.specs.Places.{laid_scopes}
-use Rattle.rankings.proofs.Atoms.{atoms_few}
-use Rattle.earliest.specs.Scores.{plus, summed, score, added, Rises}
-use Rattle.earliest.specs.Lowest.{Lowest}
-use Rattle.earliest.specs.Ranks.{path_rank, ByLowest}
-use Rattle.earliest.specs.Placement.{lowest_one}
-use Rattle.earliest.specs.PathLaws.{by_lowest}
+use Rattle.rankings.specs.Layings.{atoms, LowestFit}
+use Rattle.earliest.specs.Scores.{zero64, plus, summed}
+use Rattle.earliest.specs.Lowest.{before, places}
+use Rattle.earliest.specs.Ranks.{bits, path_rank}
+use Rattle.earliest.proofs.Turns.{place_here, place_nowhere, all_laid}
 
-pub added_laid : (x : Float) (path : List Scope) (qs : List ℕ) → added x (laid_scopes path qs) ≡ summed x path qs
-added_laid x [] qs = refl
-added_laid x (s ∷ path) [] = refl
-added_laid x (s ∷ path) (q ∷ qs) = added_laid (plus x (atoms s) q) path qs
+-- the bits of what is left of a path, laid on what is left of a stack from i on and added to x
+abbrev pub rest : Float → List Scope → List Scope → ℕ → Option ℕ
+rest x path stack i = bits x path (places path stack i)
 
-pub rises_laid : (path stack : List Scope) (i : ℕ) (qs : List ℕ) → length stack ≤ 64 → Lays stack i path qs → Rises i (laid_scopes path qs)
-rises_laid [] stack i qs h l = tt
-rises_laid (s ∷ path) stack i [] h l = absurd l
-rises_laid (s ∷ path) stack i (q ∷ qs) h l = (l.0, omega (arith, l.1.within), atoms_few s, rises_laid path stack (suc q) qs h l.2)
+bits_before : (x : Float) (s : Scope) (path : List Scope) (i : ℕ) (o : Option (List ℕ)) → bits x (s ∷ path) (before i o) ≡ bits (plus x (atoms s) i) path o
+bits_before x s path i None = refl
+bits_before x s path i (Some qs) = refl
 
--- a path's rank is the score of its lowest laying
-pub lowest_rank : (path stack : List Scope) (qs : List ℕ) → path ≢ [] → Lowest path stack qs → Some (to_bits binary64 (score path qs)) ≡ path_rank path stack
-lowest_rank path stack qs n low = go (path_rank path stack) (by_lowest path stack)
-  where
-    go : (o : Option ℕ) → ByLowest path stack o → Some (to_bits binary64 (score path qs)) ≡ o
-    go None b = absurd (b n (qs, low.lays))
-    go (Some r) b = ap Some (ap (λ (ks : List ℕ). to_bits binary64 (score path ks)) (lowest_one path stack qs b.1.0 low b.1.1) ∙ sym b.1.2)
+pub add_here : (x : Float) (s : Scope) (path left stack : List Scope) (from q : ℕ) → path ≡ s ∷ left → LowestFit s (drop from stack) (Some q)
+    → rest (plus x (atoms s) (from + q)) left (drop (from + q + 1) stack) (from + q + 1) ≡ rest x path (drop from stack) from
+add_here x s path left stack from q e f =
+    let o = places left (drop (from + q + 1) stack) (from + q + 1) in
+    sym (ap (bits x path) (place_here s path left stack from q e f)
+    ∙ ap (λ (ys : List Scope). bits x ys (before (from + q) o)) e
+    ∙ bits_before x s left (from + q) o)
 
--- and there is none where there is no laying
-pub no_rank : (path stack : List Scope) → ((path ≢ []) → Layable path stack → ⊥) → None ≡ path_rank path stack
-no_rank path stack none = go (path_rank path stack) (by_lowest path stack)
-  where
-    go : (o : Option ℕ) → ByLowest path stack o → None ≡ o
-    go None b = refl
-    go (Some r) b = absurd (none b.0 (b.1.0, b.1.1.lays))
+pub add_nowhere : (x : Float) (s : Scope) (path left stack : List Scope) (from : ℕ) → path ≡ s ∷ left → LowestFit s (drop from stack) None
+    → rest x path (drop from stack) from ≡ None
+add_nowhere x s path left stack from e f = ap (bits x path) (place_nowhere s path left stack from e f)
+
+summed_none : (x : Float) (path : List Scope) → summed x path [] ≡ x
+summed_none x [] = refl
+summed_none x (s ∷ path) = refl
+
+pub add_all : (x : Float) (path stack : List Scope) (k i : ℕ) → length path ≤ k → rest x (drop k path) stack i ≡ Some (to_bits binary64 x)
+add_all x path stack k i e =
+    ap (bits x (drop k path)) (all_laid path stack k i e) ∙ ap (λ (y : Float). Some (to_bits binary64 y)) (summed_none x (drop k path))
+
+pub add_whole_path : (path stack : List Scope) → 0 < length path → rest zero64 path stack 0 ≡ path_rank path stack
+add_whole_path [] stack h = absurd (omega arith)
+add_whole_path (s ∷ path) stack h = refl

@@ -2,5 +2,5 @@
 pub mod Turns
 -- Entries: the same, with the laying written out.
 pub mod Entries
--- Adding: the score of a laying that is written out.
+-- Adding: a turn of the loop that adds the terms of what it lays.
 pub mod Adding

@@ -1,10 +1,9 @@
 -- The score of a laying, as a double of IEEE 754's binary64.
-use Rattle.std.specs.Prelude.{◌≡◌, ℕ, zero, suc, ◌+◌, ◌*◌, ◌^◌, ◌<◌, ◌≤◌, Bool, false, not, T, List, [], ◌∷◌, pos, nat_le, to_bits, Float}
+use Rattle.std.specs.Prelude.{◌≡◌, ℕ, zero, suc, ◌+◌, ◌*◌, ◌^◌, Bool, false, not, T, List, [], ◌∷◌, pos, nat_le, to_bits, Float}
 use Rattle.std.specs.Float.{nan, inf, fin, binary64}
 use Rattle.std.specs.Float.Ieee.{round, add, fits, le}
 use Rattle.scopes.specs.declared.scope.Scope.{Scope}
 use Rattle.rankings.specs.Layings.{atoms}
-use Rattle.rankings.specs.declared.Laid.{Laid}
 
 -- the double nearest to n * 2 ^ (3 * p)
 abbrev pub term : ℕ → ℕ → Float
@@ -24,16 +23,6 @@ abbrev pub summed : Float → List Scope → List ℕ → Float
 summed x [] qs = x
 summed x (s ∷ path) [] = x
 summed x (s ∷ path) (q ∷ qs) = summed (plus x (atoms s) q) path qs
-
--- the same of laid scopes
-abbrev pub added : Float → List Laid → Float
-added x [] = x
-added x (l ∷ laid) = added (plus x l.atoms l.position) laid
-
--- laid scopes that lie at rising positions below 64, the first being no lower than `from`, and have at most eight atoms each
-abbrev pub Rises : ℕ → List Laid → Type 0
-Rises from [] = Unit {0}
-Rises from (l ∷ laid) = (from ≤ l.position) × (l.position < 64) × (l.atoms ≤ 8) × Rises (suc l.position) laid
 
 -- the score of a path laid at some positions
 abbrev pub score : List Scope → List ℕ → Float

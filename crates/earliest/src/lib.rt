@@ -3,12 +3,12 @@
 // even.
 #![tactic(auto)]
 
-ghost use Rattle.std.specs.Prelude.{◌≡◌, ◌+◌, ◌*◌, ◌^◌, ◌<◌, ◌≤◌, false, leb, length, take, pos, nat_le, to_bits};
+ghost use Rattle.std.specs.Prelude.{◌≡◌, ◌+◌, ◌*◌, ◌^◌, ◌<◌, ◌≤◌, false, leb, length, take, pos, nat_le};
 ghost use Rattle.std.specs.Float.{fin, binary64};
 ghost use Rattle.std.specs.Float.Ieee.{add};
 ghost use Rattle.std.specs.Float.Ieee.Exact.{HasValue};
 ghost use Rattle.rankings.specs.Ranks.{near_atoms, near_position, Lone};
-ghost use Rattle.earliest.specs.Scores.{term, zero64, plus, added, Rises, lone_rank, BitsOrder};
+ghost use Rattle.earliest.specs.Scores.{term, plus, lone_rank, BitsOrder};
 ghost use Rattle.earliest.specs.Lowest.{PlacesLaw};
 ghost use Rattle.earliest.specs.Ranks.{path_rank, ByLowest, Finite, Whole, ScoresOrder};
 ghost use Rattle.earliest.specs.PathLaws;
@@ -17,7 +17,7 @@ ghost use Rattle.earliest.specs.RankingLaws;
 pub mod places;
 
 pub use places::lay;
-use places::lay_on;
+use places::lowest_fit;
 use rankings::{Laid, Ranking, lowest, near_atoms, near_position};
 use scopes::Scope;
 
@@ -83,16 +83,29 @@ fn add_laid(sum: f64, laid: Laid) -> f64
     term.added_to(sum)
 }
 
-// The bits of a laying's score: the terms of its scopes added, the first one first.
-fn score_bits(laid: &[Laid]) -> u64
-    requires { Rises 0 laid.now }
-    ensures { result ≡ to_bits binary64 (added zero64 laid.now) }
+// The rank of a path on a stack of at most 64 scopes: each of its scopes in turn is laid, and its term added.
+// stays: a rank is asked far more often than a laying, and places take longer to write out than a short search
+fn path_rank(path: &[Scope], stack: &[Scope]) -> Option<u64>
+    requires { length stack.now ≤ 64 }
+    ensures { result ≡ path_rank path.now stack.now }
 {
-    let mut sum = 0.0;
-    for scope in laid {
-        sum = add_laid(sum, *scope);
+    if path.is_empty() {
+        return None;
     }
-    sum.to_bits()
+    let mut sum = 0.0;
+    let mut from = 0;
+    for scope in path {
+        let position = from + lowest_fit(*scope, &stack[from..])?;
+        sum = add_laid(
+            sum,
+            Laid {
+                atoms: scope.len(),
+                position,
+            },
+        );
+        from = position + 1;
+    }
+    Some(sum.to_bits())
 }
 
 // The rank of a scope of so many atoms at a position, both taken as the nearest that can be.
@@ -118,7 +131,7 @@ pub fn not_above(a: u64, b: u64) -> bool
 }
 
 // The rank of a path on the lowest 64 scopes of a stack.
-#[tactic(auto, using(crate::specs::Placement::places_law))]
+#[tactic(auto, using(crate::specs::Placement::places_law, crate::specs::PathLaws::by_lowest, crate::specs::PathLaws::finite_all, crate::specs::PathLaws::whole_all))]
 pub fn path(path: &[Scope], stack: &[Scope]) -> Option<u64>
     ensures rank { result ≡ path_rank path.now (take 64 stack.now) }
     ensures earliest { ByLowest path.now (take 64 stack.now) result }
@@ -126,8 +139,7 @@ pub fn path(path: &[Scope], stack: &[Scope]) -> Option<u64>
     ensures whole { Whole path.now (take 64 stack.now) result }
     ensures law { PlacesLaw }
 {
-    let places = lay_on(path, lowest(stack))?;
-    Some(score_bits(places.laid.as_slice()))
+    path_rank(path, lowest(stack))
 }
 
 // Named where a ranking is chosen; it holds nothing.

@@ -19,7 +19,19 @@ pub record Named (n : ℕ) (held : Atoms) (text : List ℕ) (scopes : List Scope
   pub within : length scopes ≤ n
   pub whole : (length scopes ≡ n) ⊎ Word rest [] []
 
--- one of the first n names is refused, where those before it are built; it stands at `at` in the text
+-- one of the first n names is refused, where those before it are built, to these scopes; it stands at `at` in the text
+pub record RefusesBehind (n : ℕ) (held : Atoms) (text : List ℕ) (scopes : List Scope) (at : ℕ) (fault : NameFault) (after : Atoms) : Type 0 where
+  pub then : Atoms
+  pub rest : List ℕ
+  pub name : List ℕ
+  pub behind : List ℕ
+  pub built : BuildsFirst held text scopes then rest
+  pub within : length scopes < n
+  pub found : Found (length text) rest name behind at
+  pub some : name ≡ [] → ⊥
+  pub refused : Builds then name (Err fault) after
+
+-- the same, whatever these scopes are
 pub record Refuses (n : ℕ) (held : Atoms) (text : List ℕ) (at : ℕ) (fault : NameFault) (after : Atoms) : Type 0 where
   pub scopes : List Scope
   pub then : Atoms

@@ -2,7 +2,7 @@
 #![tactic(auto)]
 
 ghost use Rattle.std.specs.Prelude.{MatchResult};
-ghost use Rattle.named.specs.Names.{Named, Refuses};
+ghost use Rattle.named.specs.Names.{Named, Refuses, RefusesBehind};
 ghost use Rattle.repository.specs.Held.{atoms_of};
 
 use arrayvec::ArrayVec;
@@ -18,6 +18,28 @@ pub struct Refused {
     pub fault: NameFault,
 }
 
+// Reads the scopes of the names in a text into a row, of its first N where there are more, in the place of what stood there.
+// Where one is refused, the row has the scopes of those before it.
+pub fn read_scopes<const N: usize>(
+    repository: &mut ScopeRepository,
+    names: &[u8],
+    scopes: &mut ArrayVec<Scope, N>,
+) -> Result<(), Refused>
+    ensures { MatchResult result (λ _. Named N (atoms_of repository.old) names.now scopes.new.items (atoms_of repository.new)) (λ refused. RefusesBehind N (atoms_of repository.old) names.now scopes.new.items refused.at refused.fault (atoms_of repository.new)) }
+{
+    scopes.clear();
+    for (at, name) in Words::new(names) {
+        if scopes.is_full() {
+            return Ok(());
+        }
+        let scope = repository
+            .build(name)
+            .map_err(|fault| Refused { at, fault })?;
+        scopes.push(scope);
+    }
+    Ok(())
+}
+
 // The scopes of the names in a text, of its first N where there are more, or the first of these that is refused.
 pub fn scopes_of<const N: usize>(
     repository: &mut ScopeRepository,
@@ -26,15 +48,7 @@ pub fn scopes_of<const N: usize>(
     ensures { MatchResult result (λ scopes. Named N (atoms_of repository.old) names.now scopes.items (atoms_of repository.new)) (λ refused. Refuses N (atoms_of repository.old) names.now refused.at refused.fault (atoms_of repository.new)) }
 {
     let mut scopes = ArrayVec::new();
-    for (at, name) in Words::new(names) {
-        if scopes.is_full() {
-            return Ok(scopes);
-        }
-        let scope = repository
-            .build(name)
-            .map_err(|fault| Refused { at, fault })?;
-        scopes.push(scope);
-    }
+    read_scopes(repository, names, &mut scopes)?;
     Ok(scopes)
 }
 

@@ -19,13 +19,12 @@ impl<W: Write> Printer<W> {
     fn name(&mut self, repository: &ScopeRepository, scope: Scope) -> Result<(), Stopped> {
         match repository.write(scope, self.buffer.as_mut_slice()) {
             Ok(0) => write!(self.out, "\"\"")?,
-            Ok(count) => write!(
-                self.out,
-                "{}",
-                Shown {
+            Ok(count) => {
+                let shown = Shown {
                     bytes: &self.buffer[0..count],
-                }
-            )?,
+                };
+                shown.print(&mut self.out)?;
+            }
             Err(fault) => write!(self.out, "(refusal {})", fault.number())?,
         }
         Ok(())

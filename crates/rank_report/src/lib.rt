@@ -7,7 +7,7 @@ mod print;
 use crate::print::{print_ranks, sum_up};
 use arrayvec::ArrayVec;
 use lines::{cut, split, without_return};
-use named::{NameExpected, Refused, scopes_of};
+use named::{NameExpected, Refused, read_scopes};
 use reports::{Found, Stopped, read, stop};
 use repository::{NameFault, ScopeRepository};
 use scopes::Scope;
@@ -56,8 +56,16 @@ fn flaw_of(refused: Refused, offset: usize) -> Flaw {
 }
 
 impl Task {
-    // The path and the stack of a line.
-    fn of_line(repository: &mut ScopeRepository, line: &[u8]) -> Result<Task, Flaw> {
+    // Neither a path nor a stack yet.
+    fn new() -> Task {
+        Task {
+            path: ArrayVec::new(),
+            stack: ArrayVec::new(),
+        }
+    }
+
+    // Reads the path and the stack of a line, in the place of those before.
+    fn read(&mut self, repository: &mut ScopeRepository, line: &[u8]) -> Result<(), Flaw> {
         let (names, stack_names) = split(line, b'\t');
         let offset = names.len().saturating_add(1);
         if offset > line.len() {
@@ -66,27 +74,32 @@ impl Task {
                 wanted: Wanted::Tab,
             });
         }
-        let path = scopes_of(repository, names).map_err(|refused| flaw_of(refused, 0))?;
-        let stack = scopes_of(repository, stack_names).map_err(|refused| flaw_of(refused, offset))?;
-        Ok(Task { path, stack })
+        read_scopes(repository, names, &mut self.path).map_err(|refused| flaw_of(refused, 0))?;
+        read_scopes(repository, stack_names, &mut self.stack).map_err(|refused| flaw_of(
+            refused, offset,
+        ))?;
+        Ok(())
     }
 }
 
 // Ranks line by line, to the end or to the first line with a flaw.
 fn report<W: Write>(rt: &HostRuntime, out: &mut W, path: &str, text: &[u8]) -> Result<(), Stopped> {
     let mut repository = ScopeRepository::new();
+    let mut task = Task::new();
+    let mut lines: usize = 0;
     let mut laid: usize = 0;
     for (index, whole) in cut(text, b'\n').enumerate() {
+        lines = index + 1;
         let line = without_return(whole);
-        match Task::of_line(&mut repository, line) {
-            Ok(task) => {
+        match task.read(&mut repository, line) {
+            Ok(()) => {
                 let ranked = print_ranks(out, task.path.as_slice(), task.stack.as_slice())?;
                 laid = laid.saturating_add(usize::from(ranked));
             }
             Err(flaw) => {
                 let found = Found {
                     path,
-                    number: index + 1,
+                    number: lines,
                     line,
                     at: flaw.at,
                 };
@@ -94,7 +107,7 @@ fn report<W: Write>(rt: &HostRuntime, out: &mut W, path: &str, text: &[u8]) -> R
             }
         }
     }
-    sum_up(out, cut(text, b'\n').count(), laid)
+    sum_up(out, lines, laid)
 }
 
 pub fn run(rt: &HostRuntime, path: &str) -> Result<(), Stopped> {

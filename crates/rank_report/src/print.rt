@@ -15,7 +15,7 @@ struct Positions<'a> {
 
 impl fmt::Display for Positions<'_> {
     fn fmt<W: fmt::Write>(&self, f: &mut fmt::Formatter<W>) -> fmt::Result {
-        for (i, laid) in self.places.laid.iter().enumerate() {
+        for (i, laid) in self.places.laid.iter().take(self.places.count).enumerate() {
             if i > 0 {
                 f.write_str(",")?;
             }
@@ -26,34 +26,23 @@ impl fmt::Display for Positions<'_> {
 }
 
 // The ranks of a path on a stack under both rankings, each with the laying that it is of.
-#[derive(Drop)]
-struct Ranks {
+// A laying is lent: it has over a thousand bytes, which would be copied for each line.
+#[derive(Clone, Copy)]
+struct Ranks<'a> {
     bits: u64,
-    lowest: Places,
+    lowest: &'a Places,
     digits: Digits,
-    deepest: Places,
+    deepest: &'a Places,
 }
 
-impl Ranks {
-    // Both rankings answer exactly if the path can be laid.
-    fn of(path: &[Scope], stack: &[Scope]) -> Option<Ranks> {
-        Some(Ranks {
-            bits: earliest::path(path, stack)?,
-            lowest: earliest::lay(path, stack)?,
-            digits: deepest::path(path, stack)?,
-            deepest: deepest::lay(path, stack)?,
-        })
-    }
-}
-
-impl fmt::Display for Ranks {
+impl fmt::Display for Ranks<'_> {
     fn fmt<W: fmt::Write>(&self, f: &mut fmt::Formatter<W>) -> fmt::Result {
         let whole = Whole::of(self.bits);
         let lowest = Positions {
-            places: &self.lowest,
+            places: self.lowest,
         };
         let deepest = Positions {
-            places: &self.deepest,
+            places: self.deepest,
         };
         let Digits {
             top,
@@ -69,18 +58,38 @@ impl fmt::Display for Ranks {
     }
 }
 
-// The ranks of a path on a stack, and whether it has any.
+// Says that a path has no rank on a stack.
+fn print_none(out: &mut impl Write) -> Result<bool, Stopped> {
+    writeln!(out, "no laying")?;
+    Ok(false)
+}
+
+// The ranks of a path on a stack, and whether it has any. Both rankings answer exactly if the path can be laid.
 pub(crate) fn print_ranks(
     out: &mut impl Write,
     path: &[Scope],
     stack: &[Scope],
 ) -> Result<bool, Stopped> {
-    let ranks = Ranks::of(path, stack);
-    match &ranks {
-        Some(ranks) => writeln!(out, "{ranks}")?,
-        None => writeln!(out, "no laying")?,
-    }
-    Ok(ranks.is_some())
+    let Some(bits) = earliest::path(path, stack) else {
+        return print_none(out);
+    };
+    let Some(lowest) = earliest::lay(path, stack) else {
+        return print_none(out);
+    };
+    let Some(digits) = deepest::path(path, stack) else {
+        return print_none(out);
+    };
+    let Some(deepest) = deepest::lay(path, stack) else {
+        return print_none(out);
+    };
+    let ranks = Ranks {
+        bits,
+        lowest: &lowest,
+        digits,
+        deepest: &deepest,
+    };
+    writeln!(out, "{ranks}")?;
+    Ok(true)
 }
 
 pub(crate) fn sum_up(out: &mut impl Write, lines: usize, laid: usize) -> Result<(), Stopped> {

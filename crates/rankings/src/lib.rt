@@ -6,7 +6,6 @@ ghost use Rattle.scopes.specs.declared.scope.Scope.{Scope};
 ghost use Rattle.rankings.specs.Layings.{atoms, FitsAt};
 ghost use Rattle.rankings.specs.Ranks.{near_atoms, near_position, Lone, Answered, Answers};
 
-use arrayvec::ArrayVec;
 use scopes::Scope;
 
 // A ranking: functions that stand alone. Nothing is refused, and nothing is asked of a caller.
@@ -54,10 +53,12 @@ pub struct Laid {
     pub position: usize,
 }
 
-// A path as it is laid: its scopes, in their order.
-#[derive(Drop)]
+// A path as it is laid: its first `count` entries are the path's scopes, in their order; the others say nothing.
+// stays: an array and a count, as no row of fixed capacity is `Copy`
+#[derive(Clone, Copy)]
 pub struct Places {
-    pub laid: ArrayVec<Laid, 64>,
+    pub laid: [Laid; 64],
+    pub count: usize,
 }
 
 // The nearest of 1 to 8 atoms.

@@ -3,11 +3,18 @@ ghost use Rattle.std.specs.Prelude.{IsErr};
 
 use crate::files::Stopped;
 use scripts::word;
-use std::fmt;
 use std::io::Write;
+use std::{fmt, io, str};
 
 // How much of a found word is shown.
 const LONGEST_FOUND: usize = 60;
+
+const DIGITS: &[u8; 16] = b"0123456789abcdef";
+
+// Whether a terminal shows a byte as it is.
+fn is_printable(byte: u8) -> bool {
+    byte >= b' ' && byte < 127
+}
 
 // Bytes that a terminal shows as they are; any other as \xHH, so that it is seen.
 #[derive(Clone, Copy)]
@@ -17,14 +24,32 @@ pub struct Shown<'a> {
 
 impl fmt::Display for Shown<'_> {
     fn fmt<W: fmt::Write>(&self, f: &mut fmt::Formatter<W>) -> fmt::Result {
-        for b in self.bytes {
-            if *b >= b' ' && *b < 127 {
-                f.write_char(char::from(*b))?;
-            } else {
-                write!(f, "\\x{:02x}", *b)?;
+        // printable bytes go out together, and digits as they are: the formatter takes longer for each byte or number
+        for run in self
+            .bytes
+            .chunk_by(|a, b| is_printable(*a) && is_printable(*b))
+        {
+            match run {
+                [byte] if !is_printable(*byte) => {
+                    let (high, low) = (*byte / 16, *byte % 16);
+                    let shown = [b'\\', b'x', DIGITS[high as usize], DIGITS[low as usize]];
+                    f.write_str(str::from_utf8(&shown).unwrap_or_default())?;
+                }
+                _ => f.write_str(str::from_utf8(run).unwrap_or_default())?,
             }
         }
         Ok(())
+    }
+}
+
+impl Shown<'_> {
+    // Prints them: as they are where all are printable, as in most names.
+    pub fn print(self, out: &mut impl Write) -> io::Result<()> {
+        if self.bytes.iter().all(|byte| is_printable(*byte)) {
+            out.write_all(self.bytes)
+        } else {
+            write!(out, "{self}")
+        }
     }
 }
 

@@ -5,11 +5,13 @@ use denote.Param.Members.{Mut}
 use denote.Ref.{Bor}
 use Rattle.std.specs.Fn.{CalledAt}
 use Rattle.std.specs.Str.{IsAscii, IsNotAscii}
-use Rattle.std.specs.List.{AllByRecursion, enumerate_from, slice_split, onto_first}
+use Rattle.std.specs.List.{AllByRecursion, enumerate_from, filter, slice_split, onto_first}
 use Rattle.std.proofs.lemmas.Iterator.{YieldsList}
 use Rattle.std.proofs.lemmas.Iterator.Splits.{YieldsList-from_slice_split}
 use Rattle.std.proofs.lemmas.List.{get_or_default, take_more, take-append-drop, append-nil, append_assoc, get_or-drop, length-drop}
 use Rattle.std.proofs.lemmas.List.FromFn.{get_or-enumerate_from, length-enumerate_from}
+use Rattle.std.proofs.lemmas.List.Splits.{length-slice_split}
+use Rattle.std.proofs.lemmas.List.Sums.{length-filter}
 use Rattle.std.proofs.lemmas.Bool.{cond-false, ne_eqb, and_left, and_right, and_from, lt-ltb, le-ltb}
 use Rattle.repository.specs.Names.{Atoms, ascii, dots, stripped, before, pieces}
 
@@ -55,6 +57,11 @@ pub split_pieces : (bs : List ℕ) → slice_split (λ b. eqb b 46) bs ≡ piece
 split_pieces [] = refl
 split_pieces (b ∷ bs) =
     ap (λ ps. cond (eqb b 46) ([] ∷ ps) (onto_first b ps)) (split_pieces bs) ∙ ap (cond (eqb b 46) ([] ∷ pieces bs)) (onto_before b (pieces bs))
+
+-- one piece more than dots
+pub dots_between : (bs : List ℕ) → length (filter (λ b. eqb b 46) bs) + 1 ≡ length (pieces bs)
+dots_between bs =
+    ap (λ n. n + 1) (length-filter (λ b. eqb b 46) bs) ∙ sym (length-slice_split (λ b. eqb b 46) bs) ∙ ap length (split_pieces bs)
 
 -- a text that is split at its dots gives its pieces
 pub YieldsList-from_pieces : {F : Type 0} {s : _} (g : Mut F (Bor ℕ × Unit {0}) Bool) {f : F} (text : List ℕ) → slice.split_rest s ≡ text → slice.split_done s ≡ false → slice.split_callee s ≡ f → ((x : ℕ) (b : Bool) (q : F) → CalledAt g f x b q → (q ≡ f) × (b ≡ eqb x 46)) → YieldsList (slice.split_steps g) (λ x. x.now) s (pieces text)

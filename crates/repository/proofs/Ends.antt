@@ -1,13 +1,16 @@
 -- The atoms that lie under rising ends.
-use Rattle.std.proofs.Common.{◌≡◌, ℕ, zero, suc, ◌+◌, ◌-◌, ◌<◌, ◌≤◌, cond, eqb, List, [], ◌∷◌, ◌++◌, length, get_or, take, drop, set, sym, refl, ap, ◌∙◌, subst, arith, rules}
+use Rattle.std.proofs.Common.{◌≡◌, ℕ, zero, suc, ◌+◌, ◌-◌, ◌<◌, ◌≤◌, Bool, true, false, cond, eqb, List, [], ◌∷◌, ◌++◌, length, get_or, take, drop, set, Decides, sym, refl, ap, ◌∙◌, subst, arith, rules}
 use borrow.Rule.Slice.PartMut.{put_mid}
-use Rattle.std.proofs.lemmas.List.{take-take, take_more_set, take-set, length-take-le, length-append, length-drop}
+use Rattle.std.proofs.lemmas.List.{take-take, take_more_set, take-set, drop_more, length-take-le, length-append, length-drop}
 use Rattle.std.proofs.lemmas.Slice.{between_is, take-put_mid_below, between-put_mid}
-use Rattle.std.proofs.lemmas.Bool.{cond_both, eqb-true, eqb-false}
+use Rattle.std.proofs.lemmas.Slice.Eq.{bytes_eq-Decides}
+use Rattle.std.proofs.lemmas.Bool.Decides.{same_from_decides}
+use Rattle.std.proofs.lemmas.Bool.{cond-true, cond-false, cond_both, eqb-true, eqb-false}
+use Rattle.std.specs.Str.{bytes_eq}
 use Rattle.repository.specs.declared.tables.Counts.{Counts}
 use Rattle.repository.specs.declared.tables.AtomTables.{AtomTables}
 use Rattle.repository.specs.Names.{Atoms}
-use Rattle.repository.specs.Atoms.{total}
+use Rattle.repository.specs.Atoms.{has, place, total}
 use Rattle.repository.specs.Tables.{cuts, Rising, held_by, Sound, Front, Grows, Extends}
 
 pub rising_top : (from : ℕ) (es : List ℕ) (top : ℕ) → Rising from es top → from ≤ top
@@ -110,6 +113,39 @@ module _ (text ends : List ℕ) (rising : Rising 0 ends (length text)) (held : A
 
   pub spells : take (get_or ends n 0 - x) (drop x text) ≡ get_or held n []
   spells = ap (λ m. take (get_or ends n 0 - m) (drop m text)) begins ∙ sym (cuts_at text 0 ends n within) ∙ ap (λ l. get_or l n []) is
+
+-- a search has come to the i-th end, and to where its atom begins
+module _ (start : ℕ) (ends text : List ℕ) (i : ℕ) (lt : i < length ends) (h : Rising start (drop i ends) (length text)) where
+  abbrev Here : List ℕ
+  Here = take (get_or ends i 0 - start) (drop start text)
+
+  abbrev Past : Atoms
+  Past = cuts (get_or ends i 0) (drop (i + 1) ends) text
+
+  pub turn : (start ≤ get_or ends i 0) × Rising (get_or ends i 0) (drop (i + 1) ends) (length text)
+  turn = subst (λ l. Rising start l (length text)) (drop_more ends i 0 lt) h
+
+  pub end_below : get_or ends i 0 ≤ length text
+  end_below = rising_top _ _ _ turn.1
+
+  left : cuts start (drop i ends) text ≡ Here ∷ Past
+  left = ap (λ l. cuts start l text) (drop_more ends i 0 lt)
+
+  module _ (atom : List ℕ) (r : Bool) (d : Decides r (Here ≡ atom)) where
+    same : r ≡ bytes_eq Here atom
+    same = same_from_decides r _ d (bytes_eq-Decides _ atom)
+
+    pub here_has : r ≡ true → has (cuts start (drop i ends) text) atom ≡ true
+    here_has e = ap (λ l. has l atom) left ∙ cond-true _ _ _ (sym same ∙ e)
+
+    pub here_place : r ≡ true → place (cuts start (drop i ends) text) atom ≡ 0
+    here_place e = ap (λ l. place l atom) left ∙ cond-true _ _ _ (sym same ∙ e)
+
+    pub past_has : r ≡ false → has (cuts start (drop i ends) text) atom ≡ has Past atom
+    past_has e = ap (λ l. has l atom) left ∙ cond-false _ _ _ (sym same ∙ e)
+
+    pub past_place : r ≡ false → place (cuts start (drop i ends) text) atom ≡ suc (place Past atom)
+    past_place e = ap (λ l. place l atom) left ∙ cond-false _ _ _ (sym same ∙ e)
 
 -- one more atom: the text is written from the count of bytes on, and its end at the count of atoms
 module _ (c : Counts) (t : AtomTables) (s : Sound c t) (atom : List ℕ) (few : c.atoms < 4096) (short : c.bytes + length atom ≤ 65536) where

@@ -1,5 +1,5 @@
 -- Which atoms are held, and where.
-use Rattle.std.proofs.Common.{◌≡◌, ℕ, zero, suc, ◌+◌, ◌<◌, ◌≤◌, Bool, true, false, cond, not, ◌||◌, [], ◌∷◌, ◌++◌, length, get_or, take, drop, Some, None, Option, MatchOption, is_some, sym, refl, ap, ◌∙◌, ⊎_elim, arith}
+use Rattle.std.proofs.Common.{◌≡◌, ℕ, suc, ◌+◌, ◌<◌, ◌≤◌, Bool, true, false, cond, not, ◌||◌, [], ◌∷◌, ◌++◌, length, get_or, take, drop, Some, None, Option, MatchOption, is_some, sym, refl, ap, ◌∙◌, ⊎_elim, arith}
 use Rattle.std.specs.Str.{bytes_eq}
 use Rattle.std.specs.List.{list_any}
 use Rattle.std.proofs.lemmas.List.{length_push, at_drop_more, length-take-le, take_more, append-nil, append_assoc, length-append, length-map, map_more}
@@ -79,26 +79,8 @@ place_at (x ∷ xs) a h =
     (λ (e : bytes_eq x a ≡ false). ap (λ n. get_or (x ∷ xs) n []) (cond-false (bytes_eq x a) 0 (suc (place xs a)) e) ∙ place_at xs a (simp e at h))
     (cases_Bool (bytes_eq x a))
 
--- a search for the first that is a
-place_first : (xs : Atoms) (a : Atom) (i : ℕ) → i < length xs → bytes_eq (get_or xs i []) a ≡ true → ((k : ℕ) → k < i → bytes_eq (get_or xs k []) a ≡ false) → (i ≡ place xs a) × (has xs a ≡ true)
-place_first [] a i lt e h = absurd (omega arith)
-place_first (x ∷ xs) a zero lt e h = (sym (cond-true _ 0 _ e), cond-true _ true _ e)
-place_first (x ∷ xs) a (suc i) lt e h =
-    let r = place_first xs a i (omega arith) e (λ k lt. h (suc k) (omega arith)) in
-    let ne : bytes_eq x a ≡ false = h 0 (omega arith) in
-    (ap suc r.0 ∙ sym (cond-false _ 0 (suc (place xs a)) ne), cond-false _ true (has xs a) ne ∙ r.1)
-
-place_none : (xs : Atoms) (a : Atom) → ((k : ℕ) → k < length xs → bytes_eq (get_or xs k []) a ≡ false) → has xs a ≡ false
-place_none [] a h = refl
-place_none (x ∷ xs) a h = cond-false _ true (has xs a) (h 0 (omega arith)) ∙ place_none xs a (λ k lt. h (suc k) (omega arith))
-
 abbrev pub Found : Atoms → Atom → Option ℕ → Type 0
 Found xs a r = MatchOption r (has xs a ≡ false) (λ i. (i ≡ place xs a) × (has xs a ≡ true))
-
--- as `find` over the numbers below n has it
-pub found : (xs : Atoms) (a : Atom) (n : ℕ) (r : Option ℕ) → n ≡ length xs → MatchOption r ((k : ℕ) → 0 ≤ k → k < n → bytes_eq (get_or xs k []) a ≡ false) (λ i. (0 ≤ i) × (i < n) × (bytes_eq (get_or xs i []) a ≡ true) × ((k : ℕ) → 0 ≤ k → k < i → bytes_eq (get_or xs k []) a ≡ false)) → Found xs a r
-found xs a n None e h = place_none xs a (λ k lt. h k (omega arith) (omega arith))
-found xs a n (Some i) e h = place_first xs a i (omega (arith, h.1)) h.2 (λ k lt. h.3 k (omega arith) lt)
 
 -- whether it was found
 pub found_has : (xs : Atoms) (a : Atom) (r : Option ℕ) → Found xs a r → has xs a ≡ is_some r

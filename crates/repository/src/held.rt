@@ -81,10 +81,18 @@ impl<'t> Held<'t> {
         &self.text[start..end]
     }
 
-    // The number of an atom that is held.
+    // The number of an atom that is held. Each begins where the one before it ends, so no place is looked up twice.
     pub(crate) fn find(&self, atom: &[u8]) -> Option<usize>
         ensures { MatchOption result (has self.now atom.now ≡ false) (λ number. (number ≡ place self.now atom.now) × (has self.now atom.now ≡ true)) }
     {
-        (0..self.atoms()).find(|number| self.atom(*number) == atom)
+        let mut start = 0;
+        for (number, end) in self.ends.iter().enumerate() {
+            let end = *end as usize;
+            if &self.text[start..end] == atom {
+                return Some(number);
+            }
+            start = end;
+        }
+        None
     }
 }

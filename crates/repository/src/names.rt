@@ -13,11 +13,11 @@ pub(crate) fn without_end_dots(name: &[u8]) -> &[u8]
     }
 }
 
-// How many pieces there are.
+// How many pieces there are: one more than the dots.
 pub(crate) fn count_pieces(text: &[u8]) -> usize
     ensures { result ≡ length (pieces text.now) }
 {
-    text.split(|b| *b == b'.').count()
+    text.iter().filter(|b| **b == b'.').count() + 1
 }
 
 // Whether an atom is among the first pieces of a text.

@@ -2,7 +2,7 @@ use Rattle.std.proofs.Common.{◌≡◌, ◌≤◌, length}
 use Rattle.named.specs.Names.{BuildsFirst}
 use Rattle.repository.specs.Held.{atoms_of}
 use Rattle.scripts.specs.Yields.{left_of, size_of}
-use Rattle.named.proofs.scopes_of.Given as goal
+use Rattle.named.proofs.read_scopes.Given as goal
 
 abbrev pub invariant-loop-at : goal.invariant-loop-at
 invariant-loop-at g l = record {

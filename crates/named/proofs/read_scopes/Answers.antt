@@ -4,7 +4,7 @@ use Rattle.repository.specs.Held.{atoms_of}
 use Rattle.scripts.specs.Words.{Word}
 use Rattle.scripts.specs.Yields.{left_of, size_of}
 use Rattle.named.proofs.Turns.{one_more}
-use Rattle.named.proofs.scopes_of.Goals as goal
+use Rattle.named.proofs.read_scopes.Goals as goal
 
 pub loop-at-preserved : goal.loop-at-preserved
 loop-at-preserved g c =
