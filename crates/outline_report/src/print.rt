@@ -20,10 +20,13 @@ impl<W: Write> Printer<W> {
         match repository.write(scope, self.buffer.as_mut_slice()) {
             Ok(0) => write!(self.out, "\"\"")?,
             Ok(count) => {
-                let shown = Shown {
-                    bytes: &self.buffer[0..count],
-                };
-                shown.print(&mut self.out)?;
+                let name = &self.buffer[0..count];
+                // most names can be seen as they are, and go out at once: the formatter takes longer
+                if name.iter().all(|byte| byte.is_ascii_graphic()) {
+                    self.out.write_all(name)?;
+                } else {
+                    write!(self.out, "{}", Shown { bytes: name })?;
+                }
             }
             Err(fault) => write!(self.out, "(refusal {})", fault.number())?,
         }

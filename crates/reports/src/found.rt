@@ -4,7 +4,7 @@ ghost use Rattle.std.specs.Prelude.{IsErr};
 use crate::files::Stopped;
 use scripts::word;
 use std::io::Write;
-use std::{fmt, io, str};
+use std::{fmt, str};
 
 // How much of a found word is shown.
 const LONGEST_FOUND: usize = 60;
@@ -39,17 +39,6 @@ impl fmt::Display for Shown<'_> {
             }
         }
         Ok(())
-    }
-}
-
-impl Shown<'_> {
-    // Prints them: as they are where all are printable, as in most names.
-    pub fn print(self, out: &mut impl Write) -> io::Result<()> {
-        if self.bytes.iter().all(|byte| is_printable(*byte)) {
-            out.write_all(self.bytes)
-        } else {
-            write!(out, "{self}")
-        }
     }
 }
 
